@@ -1,0 +1,4 @@
+pub mod PairLaws
+pub mod PairNumbers
+pub mod DualLaws
+pub mod TwistLaws
