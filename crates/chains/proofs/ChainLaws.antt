@@ -22,9 +22,9 @@ module _ (n : ℕ) (least : 2 ≤ n) (most : n ≤ 64) where
     cut-join = λ j u v h p q. grind (arith, tells);
     cut-tells = λ u v p q f.
         elim (cases-lt v u) [
-          inl h ↦ let k : u - 1 < n - 1 = omega (arith, ltb-true u n p) in
-          absurd (omega (arith, leb-true (u - 1 + 1) v (f (u - 1) k (le-leb (u - 1 + 1) u (omega arith)))))
-        | inr h ↦ le-leb u v h
+          | inl h ↦ let k : u - 1 < n - 1 = omega (arith, ltb-true u n p) in
+              absurd (omega (arith, leb-true (u - 1 + 1) v (f (u - 1) k (le-leb (u - 1 + 1) u (omega arith)))))
+          | inr h ↦ le-leb u v h
         ];
     cut-ceiling = λ j v h p. grind (arith, tells);
     value-valid = λ k h. lt-ltb k n h;

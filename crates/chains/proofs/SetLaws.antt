@@ -132,15 +132,15 @@ module _ (k : ℕ) (least : 1 ≤ k) (most : k ≤ 12) where
         let hc : 2 ^ k - 1 - 2 ^ j < 2 ^ k = omega (arith, two) in
         same-test (eqb (bitAnd v c) v) (not (eqb (bitAnd (2 ^ j) v) (2 ^ j)))
         (λ t.
-          elim (cases-bool (bit-of v j)) [
-            inl b ↦ absurd (both-ways (bit-of c j) (flip-bit k (2 ^ j) j (pow-lt h) h ∙ ap not (one-bit j j ∙ eq-eqb j j refl)) (le-to v c j t b))
+        elim (cases-bool (bit-of v j)) [
+          | inl b ↦ absurd (both-ways (bit-of c j) (flip-bit k (2 ^ j) j (pow-lt h) h ∙ ap not (one-bit j j ∙ eq-eqb j j refl)) (le-to v c j t b))
           | inr b ↦ ap not (cut-bit j v h hv ∙ b)
-          ])
+        ])
         (λ t.
-          le-from v c hv hc
-          (λ i l b.
-            flip-bit k (2 ^ j) i (pow-lt h) l ∙ ap not (one-bit j i)
-            ∙ ap not (ne-eqb j i (λ e. both-ways (bit-of v j) (sym (cut-bit j v h hv) ∙ not-true (eqb (bitAnd (2 ^ j) v) (2 ^ j)) t) (ap (bit-of v) e ∙ b)))));
+        le-from v c hv hc
+        (λ i l b.
+        flip-bit k (2 ^ j) i (pow-lt h) l ∙ ap not (one-bit j i)
+        ∙ ap not (ne-eqb j i (λ e. both-ways (bit-of v j) (sym (cut-bit j v h hv) ∙ not-true (eqb (bitAnd (2 ^ j) v) (2 ^ j)) t) (ap (bit-of v) e ∙ b)))));
     value-valid = λ n h. lt-ltb n (2 ^ k) h;
     number-less = λ v p. ltb-true v (2 ^ k) p;
     value-number = λ v p. refl;
@@ -174,8 +174,8 @@ module _ (k : ℕ) (least : 1 ≤ k) (most : k ≤ 12) where
         let hu = ltb-true u (2 ^ k) p in let hv = ltb-true v (2 ^ k) q in let hw = ltb-true w (2 ^ k) r in
         ext k (bitAnd u (bitOr v w)) (bitOr (bitAnd u v) (bitAnd u w)) (and-lt k u (bitOr v w) hu (or-lt k v w hv hw)) (or-lt k (bitAnd u v) (bitAnd u w) (and-lt k u v hu hv) (and-lt k u w hu hw))
         (λ j h.
-          bit-and u (bitOr v w) j ∙ ap (λ x. bit-of u j && x) (bit-or v w j) ∙ and-over-or (bit-of u j) (bit-of v j) (bit-of w j)
-          ∙ ap (λ x. x || (bit-of u j && bit-of w j)) (sym (bit-and u v j)) ∙ ap (λ y. bit-of (bitAnd u v) j || y) (sym (bit-and u w j)) ∙ sym (bit-or (bitAnd u v) (bitAnd u w) j));
+        bit-and u (bitOr v w) j ∙ ap (λ x. bit-of u j && x) (bit-or v w j) ∙ and-over-or (bit-of u j) (bit-of v j) (bit-of w j)
+        ∙ ap (λ x. x || (bit-of u j && bit-of w j)) (sym (bit-and u v j)) ∙ ap (λ y. bit-of (bitAnd u v) j || y) (sym (bit-and u w j)) ∙ sym (bit-or (bitAnd u v) (bitAnd u w) j));
     at-least = two;
     at-most = omega (arith, pow-mono {i = k} {j = 12} most);
     no-cuts = λ e. absurd (omega (arith, pow-mono {i = k} {j = 12} most));
@@ -191,19 +191,19 @@ module _ (k : ℕ) (least : 1 ≤ k) (most : k ≤ 12) where
         let ou : 2 ^ k - 1 - u < 2 ^ k = omega (arith, two) in let ov : 2 ^ k - 1 - v < 2 ^ k = omega (arith, two) in
         same-test (eqb (bitAnd (2 ^ k - 1 - v) (2 ^ k - 1 - u)) (2 ^ k - 1 - v)) (eqb (bitAnd u v) u)
         (λ t.
-          le-from u v hu hv
-          (λ j h b.
-            elim (cases-bool (bit-of v j)) [
-              inl y ↦ y
-            | inr y ↦ absurd (both-ways (bit-of (2 ^ k - 1 - u) j) (flip-bit k u j hu h ∙ ap not b) (le-to (2 ^ k - 1 - v) (2 ^ k - 1 - u) j t (flip-bit k v j hv h ∙ ap not y)))
-            ]))
+        le-from u v hu hv
+        (λ j h b.
+        elim (cases-bool (bit-of v j)) [
+          | inl y ↦ y
+          | inr y ↦ absurd (both-ways (bit-of (2 ^ k - 1 - u) j) (flip-bit k u j hu h ∙ ap not b) (le-to (2 ^ k - 1 - v) (2 ^ k - 1 - u) j t (flip-bit k v j hv h ∙ ap not y)))
+        ]))
         (λ t.
-          le-from (2 ^ k - 1 - v) (2 ^ k - 1 - u) ov ou
-          (λ j h b.
-            elim (cases-bool (bit-of u j)) [
-              inl y ↦ absurd (both-ways (bit-of (2 ^ k - 1 - v) j) (flip-bit k v j hv h ∙ ap not (le-to u v j t y)) b)
-            | inr y ↦ flip-bit k u j hu h ∙ ap not y
-            ]));
+        le-from (2 ^ k - 1 - v) (2 ^ k - 1 - u) ov ou
+        (λ j h b.
+        elim (cases-bool (bit-of u j)) [
+          | inl y ↦ absurd (both-ways (bit-of (2 ^ k - 1 - v) j) (flip-bit k v j hv h ∙ ap not (le-to u v j t y)) b)
+          | inr y ↦ flip-bit k u j hu h ∙ ap not y
+        ]));
     partner-less = λ s j h. h;
     cut-opposite = λ s j v h p.
         let hv = ltb-true v (2 ^ k) p in

@@ -22,7 +22,11 @@ impl Chain {
     pub fn new(n: u8) -> Result<Chain, Refusal>
         ensures { λ r. ⌜ elim r [ Ok c ↦ (within 2 64 n ≡ true) × (c .n ≡ n) | Err e ↦ (within 2 64 n ≡ false) × (refusal-number e ≡ 10) ] ⌝ }
     {
-        if n >= 2 && n <= 64 { Ok(Chain { n }) } else { Err(Refusal::Logic) }
+        if n >= 2 && n <= 64 {
+            Ok(Chain { n })
+        } else {
+            Err(Refusal::Logic)
+        }
     }
 }
 
@@ -60,15 +64,23 @@ pub impl Scale for Chain as ChainScale {
     }
 
     fn cut(&self, j: u32) -> Option<u8> {
-        if j < self.cut_count() { Some(j as u8 + 1) } else { None }
+        if j < self.cut_count() {
+            Some(j as u8 + 1)
+        } else {
+            None
+        }
     }
 
     fn ceiling(&self, j: u32) -> Option<u8> {
-        if j < self.cut_count() { Some(j as u8) } else { None }
+        if j < self.cut_count() {
+            Some(j as u8)
+        } else {
+            None
+        }
     }
 
     fn size(&self) -> u32 {
-        self.n as u32
+        u32::from(self.n)
     }
 
     fn value(&self, n: u32) -> Option<u8> {
@@ -76,7 +88,11 @@ pub impl Scale for Chain as ChainScale {
     }
 
     fn number(&self, v: u8) -> Option<u32> {
-        if self.is_value(v) { Some(v as u32) } else { None }
+        if self.is_value(v) {
+            Some(v as u32)
+        } else {
+            None
+        }
     }
 }
 
@@ -90,6 +106,10 @@ pub impl Logic for Chain as ChainLogic {
     }
 
     fn partner(&self, j: u32) -> Option<u32> {
-        if j < self.cut_count() { Some(self.n as u32 - 2 - j) } else { None }
+        if j < self.cut_count() {
+            Some(self.n as u32 - 2 - j)
+        } else {
+            None
+        }
     }
 }

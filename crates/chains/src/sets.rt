@@ -22,7 +22,11 @@ impl Sets {
     pub fn new(k: u8) -> Result<Sets, Refusal>
         ensures { λ r. ⌜ elim r [ Ok s ↦ (within 1 12 k ≡ true) × (s .k ≡ k) | Err e ↦ (within 1 12 k ≡ false) × (refusal-number e ≡ 10) ] ⌝ }
     {
-        if k >= 1 && k <= 12 { Ok(Sets { k }) } else { Err(Refusal::Logic) }
+        if k >= 1 && k <= 12 {
+            Ok(Sets { k })
+        } else {
+            Err(Refusal::Logic)
+        }
     }
 
     // The set of all members.
@@ -48,7 +52,7 @@ pub impl Scale for Sets as SetsScale {
     }
 
     fn is_value(&self, v: u16) -> bool {
-        v <= self.all()
+        self.all() >= v
     }
 
     fn meet_values(&self, u: u16, v: u16) -> u16 {
@@ -60,7 +64,7 @@ pub impl Scale for Sets as SetsScale {
     }
 
     fn leq_values(&self, u: u16, v: u16) -> bool {
-        u & v == u
+        self.meet_values(u, v) == u
     }
 
     fn cut_count(&self) -> u32 {
@@ -68,11 +72,19 @@ pub impl Scale for Sets as SetsScale {
     }
 
     fn cut(&self, j: u32) -> Option<u16> {
-        if j < self.cut_count() { Some(1u16 << j) } else { None }
+        if j < self.cut_count() {
+            Some(1u16 << j)
+        } else {
+            None
+        }
     }
 
     fn ceiling(&self, j: u32) -> Option<u16> {
-        if j < self.cut_count() { Some(self.all() - (1u16 << j)) } else { None }
+        if j < self.cut_count() {
+            Some(self.all() - (1u16 << j))
+        } else {
+            None
+        }
     }
 
     fn size(&self) -> u32 {
@@ -80,11 +92,19 @@ pub impl Scale for Sets as SetsScale {
     }
 
     fn value(&self, n: u32) -> Option<u16> {
-        if n <= self.all() as u32 { Some(n as u16) } else { None }
+        if n <= self.all() as u32 {
+            Some(n as u16)
+        } else {
+            None
+        }
     }
 
     fn number(&self, v: u16) -> Option<u32> {
-        if v <= self.all() { Some(v as u32) } else { None }
+        if v <= self.all() {
+            Some(v as u32)
+        } else {
+            None
+        }
     }
 }
 

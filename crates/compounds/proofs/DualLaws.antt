@@ -39,28 +39,28 @@ module _ {V : Type 0} (m : Model V) (l : Lawful m) where
       let xu = l .join-first u (m .meet v w) p vw in
       let xvw = l .join-second u (m .meet v w) p vw in
       let up =
-            l .join-least u (m .meet v w) (m .meet (m .join u v) (m .join u w)) p vw y
-            (l .meet-most (m .join u v) (m .join u w) u uv uw p (l .join-first u v p q) (l .join-first u w p r))
-            (l .meet-most (m .join u v) (m .join u w) (m .meet v w) uv uw vw
-              (l .through (m .meet v w) v (m .join u v) vw q uv (l .meet-first v w q r) (l .join-second u v p q))
-              (l .through (m .meet v w) w (m .join u w) vw r uw (l .meet-second v w q r) (l .join-second u w p r))) in
+      l .join-least u (m .meet v w) (m .meet (m .join u v) (m .join u w)) p vw y
+      (l .meet-most (m .join u v) (m .join u w) u uv uw p (l .join-first u v p q) (l .join-first u w p r))
+      (l .meet-most (m .join u v) (m .join u w) (m .meet v w) uv uw vw
+      (l .through (m .meet v w) v (m .join u v) vw q uv (l .meet-first v w q r) (l .join-second u v p q))
+      (l .through (m .meet v w) w (m .join u w) vw r uw (l .meet-second v w q r) (l .join-second u w p r))) in
       -- (u ∨ v) ∧ w is at or below the left side
       let t = l .meet-valid (m .join u v) w uv r in
       let t' = l .meet-valid w (m .join u v) r uv in
       let low1 : Le m (m .meet w (m .join u v)) (m .join u (m .meet v w)) =
-            subst (λ z. Le m z (m .join u (m .meet v w))) (sym (l .spreads w u v r p q))
-            (l .join-least (m .meet w u) (m .meet w v) (m .join u (m .meet v w)) wu wv x
-              (l .through (m .meet w u) u (m .join u (m .meet v w)) wu p x (l .meet-second w u r p) xu)
-              (l .through (m .meet w v) (m .meet v w) (m .join u (m .meet v w)) wv vw x
-                (l .meet-most v w (m .meet w v) q r wv (l .meet-second w v r q) (l .meet-first w v r q)) xvw)) in
+      subst (λ z. Le m z (m .join u (m .meet v w))) (sym (l .spreads w u v r p q))
+      (l .join-least (m .meet w u) (m .meet w v) (m .join u (m .meet v w)) wu wv x
+      (l .through (m .meet w u) u (m .join u (m .meet v w)) wu p x (l .meet-second w u r p) xu)
+      (l .through (m .meet w v) (m .meet v w) (m .join u (m .meet v w)) wv vw x
+      (l .meet-most v w (m .meet w v) q r wv (l .meet-second w v r q) (l .meet-first w v r q)) xvw)) in
       let low2 : Le m (m .meet (m .join u v) w) (m .join u (m .meet v w)) =
-            l .through (m .meet (m .join u v) w) (m .meet w (m .join u v)) (m .join u (m .meet v w)) t t' x
-            (l .meet-most w (m .join u v) (m .meet (m .join u v) w) r uv t (l .meet-second (m .join u v) w uv r) (l .meet-first (m .join u v) w uv r)) low1 in
+      l .through (m .meet (m .join u v) w) (m .meet w (m .join u v)) (m .join u (m .meet v w)) t t' x
+      (l .meet-most w (m .join u v) (m .meet (m .join u v) w) r uv t (l .meet-second (m .join u v) w uv r) (l .meet-first (m .join u v) w uv r)) low1 in
       let tu = l .meet-valid (m .join u v) u uv p in
       let down : Le m (m .meet (m .join u v) (m .join u w)) (m .join u (m .meet v w)) =
-            subst (λ z. Le m z (m .join u (m .meet v w))) (sym (l .spreads (m .join u v) u w uv p r))
-            (l .join-least (m .meet (m .join u v) u) (m .meet (m .join u v) w) (m .join u (m .meet v w)) tu t x
-              (l .through (m .meet (m .join u v) u) u (m .join u (m .meet v w)) tu p x (l .meet-second (m .join u v) u uv p) xu) low2) in
+      subst (λ z. Le m z (m .join u (m .meet v w))) (sym (l .spreads (m .join u v) u w uv p r))
+      (l .join-least (m .meet (m .join u v) u) (m .meet (m .join u v) w) (m .join u (m .meet v w)) tu t x
+      (l .through (m .meet (m .join u v) u) u (m .join u (m .meet v w)) tu p x (l .meet-second (m .join u v) u uv p) xu) low2) in
       l .anti (m .join u (m .meet v w)) (m .meet (m .join u v) (m .join u w)) x y up down
 
   module _ (k : Counted m) where
@@ -71,13 +71,13 @@ module _ {V : Type 0} (m : Model V) (l : Lawful m) where
         let uv = l .meet-valid u v p q in
         same-test (m .leq (m .cut j) (m .meet u v)) (m .leq (m .cut j) u && m .leq (m .cut j) v)
         (λ e.
-          and-from (m .leq (m .cut j) u) (m .leq (m .cut j) v)
-          (l .through (m .cut j) (m .meet u v) u c uv p e (l .meet-first u v p q))
-          (l .through (m .cut j) (m .meet u v) v c uv q e (l .meet-second u v p q)))
+        and-from (m .leq (m .cut j) u) (m .leq (m .cut j) v)
+        (l .through (m .cut j) (m .meet u v) u c uv p e (l .meet-first u v p q))
+        (l .through (m .cut j) (m .meet u v) v c uv q e (l .meet-second u v p q)))
         (λ e.
-          l .meet-most u v (m .cut j) p q c
-          (and-parts (m .leq (m .cut j) u) (m .leq (m .cut j) v) e .0)
-          (and-parts (m .leq (m .cut j) u) (m .leq (m .cut j) v) e .1))
+        l .meet-most u v (m .cut j) p q c
+        (and-parts (m .leq (m .cut j) u) (m .leq (m .cut j) v) e .0)
+        (and-parts (m .leq (m .cut j) u) (m .leq (m .cut j) v) e .1))
 
     -- equal ceilings: the cuts are at or below the same values
     ceiling-le : (i j : ℕ) → i < m .cuts → j < m .cuts → m .ceiling i ≡ m .ceiling j → Le m (m .cut i) (m .cut j)
@@ -104,13 +104,13 @@ module _ {V : Type 0} (m : Model V) (l : Lawful m) where
       cut-tells = λ u v p q f.
           k .cut-tells v u q p
           (λ j h e.
-            elim (cases-bool (m .leq (m .cut j) u)) [
-              inl t ↦ t
+          elim (cases-bool (m .leq (m .cut j) u)) [
+            | inl t ↦ t
             | inr t ↦
-              let under = f j h (k .cut-ceiling j u h p ∙ ap not t) in
-              let z = sym (k .cut-ceiling j v h q) ∙ under in
-              absurd (both-ways (not (m .leq (m .cut j) v)) (ap not e) z)
-            ]);
+                let under = f j h (k .cut-ceiling j u h p ∙ ap not t) in
+                let z = sym (k .cut-ceiling j v h q) ∙ under in
+                absurd (both-ways (not (m .leq (m .cut j) v)) (ap not e) z)
+          ]);
       cut-ceiling = λ j v h p. sym (not-not (m .leq (m .cut j) v)) ∙ ap not (sym (k .cut-ceiling j v h p));
       value-valid = λ n h. k .value-valid (m .size - 1 - n) (omega arith);
       number-less = λ v p. omega (arith, k .number-less v p);

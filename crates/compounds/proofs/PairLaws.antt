@@ -109,8 +109,8 @@ module _ {A B : Type 0} (few : Bool) (a : Model A) (b : Model B) (la : Lawful a)
   pub each : (P : ℕ → Type 0) → ((j : ℕ) → j < a .cuts → P j) → ((k : ℕ) → k < b .cuts → P (a .cuts + k)) → (j : ℕ) → j < a .cuts + b .cuts → P j
   each P f g j h =
       elim (cases-lt j (a .cuts)) [
-        inl k ↦ f j k
-      | inr k ↦ subst P (let e : a .cuts + (j - a .cuts) ≡ j = omega arith in e) (g (j - a .cuts) (omega arith))
+        | inl k ↦ f j k
+        | inr k ↦ subst P (let e : a .cuts + (j - a .cuts) ≡ j = omega arith in e) (g (j - a .cuts) (omega arith))
       ]
 
 -- the pair's size is a product of two numbers from 2 on
@@ -143,13 +143,13 @@ module _ {A B : Type 0} (a : Model A) (b : Model B) (la : Lawful a) (lb : Lawful
   once =
       each true a b la lb ca cb (λ i. (j : ℕ) → j < a .cuts + b .cuts → pair-at true a b .cut i ≡ pair-at true a b .cut j → i ≡ j)
       (λ i h.
-        each true a b la lb ca cb (λ j. pair-at true a b .cut i ≡ pair-at true a b .cut j → i ≡ j)
-        (λ j k e. ca .cut-once i j h k (ap (λ v. v .first) (sym (first-cut true a b la lb ca cb i h) ∙ e ∙ first-cut true a b la lb ca cb j k)))
-        (λ j k e. absurd (not-low i h (ap (λ v. v .first) (sym (first-cut true a b la lb ca cb i h) ∙ e ∙ second-cut true a b la lb ca cb j)))))
+      each true a b la lb ca cb (λ j. pair-at true a b .cut i ≡ pair-at true a b .cut j → i ≡ j)
+      (λ j k e. ca .cut-once i j h k (ap (λ v. v .first) (sym (first-cut true a b la lb ca cb i h) ∙ e ∙ first-cut true a b la lb ca cb j k)))
+      (λ j k e. absurd (not-low i h (ap (λ v. v .first) (sym (first-cut true a b la lb ca cb i h) ∙ e ∙ second-cut true a b la lb ca cb j)))))
       (λ i h.
-        each true a b la lb ca cb (λ j. pair-at true a b .cut (a .cuts + i) ≡ pair-at true a b .cut j → a .cuts + i ≡ j)
-        (λ j k e. absurd (not-low j k (ap (λ v. v .first) (sym (first-cut true a b la lb ca cb j k) ∙ sym e ∙ second-cut true a b la lb ca cb i))))
-        (λ j k e. ap (λ n. a .cuts + n) (cb .cut-once i j h k (ap (λ v. v .second) (sym (second-cut true a b la lb ca cb i) ∙ e ∙ second-cut true a b la lb ca cb j)))))
+      each true a b la lb ca cb (λ j. pair-at true a b .cut (a .cuts + i) ≡ pair-at true a b .cut j → a .cuts + i ≡ j)
+      (λ j k e. absurd (not-low j k (ap (λ v. v .first) (sym (first-cut true a b la lb ca cb j k) ∙ sym e ∙ second-cut true a b la lb ca cb i))))
+      (λ j k e. ap (λ n. a .cuts + n) (cb .cut-once i j h k (ap (λ v. v .second) (sym (second-cut true a b la lb ca cb i) ∙ e ∙ second-cut true a b la lb ca cb j)))))
 
   pair-counted : Counted (pair-at true a b)
   pair-counted = record {
@@ -168,19 +168,19 @@ module _ {A B : Type 0} (a : Model A) (b : Model B) (la : Lawful a) (lb : Lawful
         each true a b la lb ca cb
         (λ i. pair-at true a b .leq (pair-at true a b .cut i) (pair-at true a b .join u v) ≡ (pair-at true a b .leq (pair-at true a b .cut i) u || pair-at true a b .leq (pair-at true a b .cut i) v))
         (λ i k.
-          let p1 = left true a b la lb u p in let q1 = left true a b la lb v q in
-          let p2 = right true a b la lb u p in let q2 = right true a b la lb v q in
-          let e = first-tells true a b la lb ca cb i (pair-at true a b .join u v) k (lb .join-valid (u .second) (v .second) p2 q2) in
-          let f = first-tells true a b la lb ca cb i u k p2 in
-          let g = first-tells true a b la lb ca cb i v k q2 in
-          e ∙ ca .cut-join i (u .first) (v .first) k p1 q1 ∙ ap (λ x. x || a .leq (a .cut i) (v .first)) (sym f) ∙ ap (λ y. pair-at true a b .leq (pair-at true a b .cut i) u || y) (sym g))
+        let p1 = left true a b la lb u p in let q1 = left true a b la lb v q in
+        let p2 = right true a b la lb u p in let q2 = right true a b la lb v q in
+        let e = first-tells true a b la lb ca cb i (pair-at true a b .join u v) k (lb .join-valid (u .second) (v .second) p2 q2) in
+        let f = first-tells true a b la lb ca cb i u k p2 in
+        let g = first-tells true a b la lb ca cb i v k q2 in
+        e ∙ ca .cut-join i (u .first) (v .first) k p1 q1 ∙ ap (λ x. x || a .leq (a .cut i) (v .first)) (sym f) ∙ ap (λ y. pair-at true a b .leq (pair-at true a b .cut i) u || y) (sym g))
         (λ i k.
-          let p1 = left true a b la lb u p in let q1 = left true a b la lb v q in
-          let p2 = right true a b la lb u p in let q2 = right true a b la lb v q in
-          let e = second-tells true a b la lb ca cb i (pair-at true a b .join u v) (la .join-valid (u .first) (v .first) p1 q1) in
-          let f = second-tells true a b la lb ca cb i u p1 in
-          let g = second-tells true a b la lb ca cb i v q1 in
-          e ∙ cb .cut-join i (u .second) (v .second) k p2 q2 ∙ ap (λ x. x || b .leq (b .cut i) (v .second)) (sym f) ∙ ap (λ y. pair-at true a b .leq (pair-at true a b .cut (a .cuts + i)) u || y) (sym g))
+        let p1 = left true a b la lb u p in let q1 = left true a b la lb v q in
+        let p2 = right true a b la lb u p in let q2 = right true a b la lb v q in
+        let e = second-tells true a b la lb ca cb i (pair-at true a b .join u v) (la .join-valid (u .first) (v .first) p1 q1) in
+        let f = second-tells true a b la lb ca cb i u p1 in
+        let g = second-tells true a b la lb ca cb i v q1 in
+        e ∙ cb .cut-join i (u .second) (v .second) k p2 q2 ∙ ap (λ x. x || b .leq (b .cut i) (v .second)) (sym f) ∙ ap (λ y. pair-at true a b .leq (pair-at true a b .cut (a .cuts + i)) u || y) (sym g))
         j h;
     cut-tells = λ u v p q f.
         let p1 = left true a b la lb u p in let q1 = left true a b la lb v q in
@@ -193,15 +193,15 @@ module _ {A B : Type 0} (a : Model A) (b : Model B) (la : Lawful a) (lb : Lawful
         each true a b la lb ca cb
         (λ i. pair-at true a b .leq v (pair-at true a b .ceiling i) ≡ not (pair-at true a b .leq (pair-at true a b .cut i) v))
         (λ i k.
-          ap (λ c. pair-at true a b .leq v c) (first-ceiling true a b la lb ca cb i k)
-          ∙ and-true (a .leq (v .first) (a .ceiling i)) (b .leq (v .second) (b .highest)) (lb .le-high (v .second) p2)
-          ∙ ca .cut-ceiling i (v .first) k p1
-          ∙ ap not (sym (first-tells true a b la lb ca cb i v k p2)))
+        ap (λ c. pair-at true a b .leq v c) (first-ceiling true a b la lb ca cb i k)
+        ∙ and-true (a .leq (v .first) (a .ceiling i)) (b .leq (v .second) (b .highest)) (lb .le-high (v .second) p2)
+        ∙ ca .cut-ceiling i (v .first) k p1
+        ∙ ap not (sym (first-tells true a b la lb ca cb i v k p2)))
         (λ i k.
-          ap (λ c. pair-at true a b .leq v c) (second-ceiling true a b la lb ca cb i)
-          ∙ true-and (a .leq (v .first) (a .highest)) (b .leq (v .second) (b .ceiling i)) (la .le-high (v .first) p1)
-          ∙ cb .cut-ceiling i (v .second) k p2
-          ∙ ap not (sym (second-tells true a b la lb ca cb i v p1)))
+        ap (λ c. pair-at true a b .leq v c) (second-ceiling true a b la lb ca cb i)
+        ∙ true-and (a .leq (v .first) (a .highest)) (b .leq (v .second) (b .ceiling i)) (la .le-high (v .first) p1)
+        ∙ cb .cut-ceiling i (v .second) k p2
+        ∙ ap not (sym (second-tells true a b la lb ca cb i v p1)))
         j h;
     value-valid = λ n h.
         let pos : 0 < b .size = omega (arith, lb .at-least) in
@@ -252,36 +252,36 @@ module _ {A B : Type 0} (a : Model A) (b : Model B) (la : Lawful a) (lb : Lawful
         ∙ ap (λ y. a .leq (u .first) (v .first) && y) (ob .turns (u .second) (v .second) (right few a b la lb u p) (right few a b la lb v q));
     partner-less =
         elim few as (λ t. (t ≡ true → a .size * b .size ≤ 4096) → pair-at t a b .size ≤ 4096 → (j : ℕ) → j < pair-at t a b .cuts → pair-partner (a .cuts) ga gb j < pair-at t a b .cuts) [
-          true ↦ λ h k.
-          let sa = first-few (a .size) (b .size) (lb .at-least) k in
-          let sb = second-few (a .size) (b .size) (la .at-least) k in
-          each true a b la lb (la .counted sa) (lb .counted sb) (λ j. pair-partner (a .cuts) ga gb j < a .cuts + b .cuts)
-          (λ j l. rw (first-partner j l) (omega (arith, oa .partner-less sa j l)))
-          (λ j l. rw (second-partner j) (omega (arith, ob .partner-less sb j l)))
-        | false ↦ λ h k. absurd (omega arith)
+          | true ↦ λ h k.
+              let sa = first-few (a .size) (b .size) (lb .at-least) k in
+              let sb = second-few (a .size) (b .size) (la .at-least) k in
+              each true a b la lb (la .counted sa) (lb .counted sb) (λ j. pair-partner (a .cuts) ga gb j < a .cuts + b .cuts)
+              (λ j l. rw (first-partner j l) (omega (arith, oa .partner-less sa j l)))
+              (λ j l. rw (second-partner j) (omega (arith, ob .partner-less sb j l)))
+          | false ↦ λ h k. absurd (omega arith)
         ] bound;
     cut-opposite =
         elim few as (λ t. (t ≡ true → a .size * b .size ≤ 4096) → pair-at t a b .size ≤ 4096 → (j : ℕ) (v : PairValue A B) → j < pair-at t a b .cuts → Is (pair-at t a b) v → pair-at t a b .leq (pair-at t a b .cut j) (pair-opposite fa fb v) ≡ not (pair-at t a b .leq (pair-at t a b .cut (pair-partner (a .cuts) ga gb j)) v)) [
-          true ↦ λ h k j v l p.
-          let sa = first-few (a .size) (b .size) (lb .at-least) k in
-          let sb = second-few (a .size) (b .size) (la .at-least) k in
-          let ca = la .counted sa in
-          let cb = lb .counted sb in
-          let p1 = left true a b la lb v p in
-          let p2 = right true a b la lb v p in
-          each true a b la lb ca cb (λ j. pair-at true a b .leq (pair-at true a b .cut j) (pair-opposite fa fb v) ≡ not (pair-at true a b .leq (pair-at true a b .cut (pair-partner (a .cuts) ga gb j)) v))
-          (λ i m.
-            first-tells true a b la lb ca cb i (pair-opposite fa fb v) m (ob .opposite-valid (v .second) p2)
-            ∙ oa .cut-opposite sa i (v .first) m p1
-            ∙ ap not (sym (first-tells true a b la lb ca cb (ga i) v (oa .partner-less sa i m) p2))
-            ∙ ap (λ n. not (pair-at true a b .leq (pair-at true a b .cut n) v)) (sym (first-partner i m)))
-          (λ i m.
-            second-tells true a b la lb ca cb i (pair-opposite fa fb v) (oa .opposite-valid (v .first) p1)
-            ∙ ob .cut-opposite sb i (v .second) m p2
-            ∙ ap not (sym (second-tells true a b la lb ca cb (gb i) v p1))
-            ∙ ap (λ n. not (pair-at true a b .leq (pair-at true a b .cut n) v)) (sym (second-partner i)))
-          j l
-        | false ↦ λ h k. absurd (omega arith)
+          | true ↦ λ h k j v l p.
+              let sa = first-few (a .size) (b .size) (lb .at-least) k in
+              let sb = second-few (a .size) (b .size) (la .at-least) k in
+              let ca = la .counted sa in
+              let cb = lb .counted sb in
+              let p1 = left true a b la lb v p in
+              let p2 = right true a b la lb v p in
+              each true a b la lb ca cb (λ j. pair-at true a b .leq (pair-at true a b .cut j) (pair-opposite fa fb v) ≡ not (pair-at true a b .leq (pair-at true a b .cut (pair-partner (a .cuts) ga gb j)) v))
+              (λ i m.
+              first-tells true a b la lb ca cb i (pair-opposite fa fb v) m (ob .opposite-valid (v .second) p2)
+              ∙ oa .cut-opposite sa i (v .first) m p1
+              ∙ ap not (sym (first-tells true a b la lb ca cb (ga i) v (oa .partner-less sa i m) p2))
+              ∙ ap (λ n. not (pair-at true a b .leq (pair-at true a b .cut n) v)) (sym (first-partner i m)))
+              (λ i m.
+              second-tells true a b la lb ca cb i (pair-opposite fa fb v) (oa .opposite-valid (v .first) p1)
+              ∙ ob .cut-opposite sb i (v .second) m p2
+              ∙ ap not (sym (second-tells true a b la lb ca cb (gb i) v p1))
+              ∙ ap (λ n. not (pair-at true a b .leq (pair-at true a b .cut n) v)) (sym (second-partner i)))
+              j l
+          | false ↦ λ h k. absurd (omega arith)
         ] bound;
   }
 

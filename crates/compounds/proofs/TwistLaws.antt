@@ -111,22 +111,22 @@ module _ {V : Type 0} (m : Model V) (l : Lawful m) where
       let o = there (twist-opposite v) in
       each true m (dual m) l d c e (λ i. twist-at true m .leq (twist-at true m .cut i) (twist-opposite v) ≡ not (twist-at true m .leq (twist-at true m .cut (twist-partner (m .cuts) i)) v))
       (λ i n.
-        cut-le true m i (twist-opposite v)
-        ∙ first-tells true m (dual m) l d c e i o n (w .0)
-        ∙ sym (not-not (m .leq (m .cut i) (v .con)))
-        ∙ ap not
-        (sym (c .cut-ceiling i (v .con) n (w .1))
-          ∙ sym (second-tells true m (dual m) l d c e i (there v) (w .0))
-          ∙ sym (cut-le true m (m .cuts + i) v)
-          ∙ ap (λ x. twist-at true m .leq (twist-at true m .cut x) v) (sym (first-partner (m .cuts) i n))))
+      cut-le true m i (twist-opposite v)
+      ∙ first-tells true m (dual m) l d c e i o n (w .0)
+      ∙ sym (not-not (m .leq (m .cut i) (v .con)))
+      ∙ ap not
+      (sym (c .cut-ceiling i (v .con) n (w .1))
+      ∙ sym (second-tells true m (dual m) l d c e i (there v) (w .0))
+      ∙ sym (cut-le true m (m .cuts + i) v)
+      ∙ ap (λ x. twist-at true m .leq (twist-at true m .cut x) v) (sym (first-partner (m .cuts) i n))))
       (λ i n.
-        cut-le true m (m .cuts + i) (twist-opposite v)
-        ∙ second-tells true m (dual m) l d c e i o (w .1)
-        ∙ c .cut-ceiling i (v .pro) n (w .0)
-        ∙ ap not
-        (sym (first-tells true m (dual m) l d c e i (there v) n (w .1))
-          ∙ sym (cut-le true m i v)
-          ∙ ap (λ x. twist-at true m .leq (twist-at true m .cut x) v) (sym (second-partner (m .cuts) i))))
+      cut-le true m (m .cuts + i) (twist-opposite v)
+      ∙ second-tells true m (dual m) l d c e i o (w .1)
+      ∙ c .cut-ceiling i (v .pro) n (w .0)
+      ∙ ap not
+      (sym (first-tells true m (dual m) l d c e i (there v) n (w .1))
+      ∙ sym (cut-le true m i v)
+      ∙ ap (λ x. twist-at true m .leq (twist-at true m .cut x) v) (sym (second-partner (m .cuts) i))))
       j h
   turned false k j v h p = absurd (omega arith)
 

@@ -11,20 +11,11 @@ pub struct PairValue<A, B> {
     pub second: B,
 }
 
-// The pair of two scales or logics.
+// The pair of two scales or of two logics. Any two make one, so it is made by its parts.
 #[derive(Drop)]
 pub struct Pair<A, B> {
     pub first: A,
     pub second: B,
-}
-
-impl<A, B> Pair<A, B> {
-    pub fn new(first: A, second: B) -> Pair<A, B>
-        ensures first { λ r. ⌜ r .first ≡ first ⌝ }
-        ensures second { λ r. ⌜ r .second ≡ second ⌝ }
-    {
-        Pair { first, second }
-    }
 }
 
 pub impl<A: Scale, B: Scale> Scale for Pair<A, B> as PairScale {
@@ -33,31 +24,59 @@ pub impl<A: Scale, B: Scale> Scale for Pair<A, B> as PairScale {
     ghost model = { λ s. pair-model (A·Scale .model (s .first)) (B·Scale .model (s .second)) };
 
     fn lowest(&self) -> PairValue<A::Value, B::Value> {
-        PairValue { first: self.first.lowest(), second: self.second.lowest() }
+        PairValue {
+            first: self.first.lowest(),
+            second: self.second.lowest(),
+        }
     }
 
     fn highest(&self) -> PairValue<A::Value, B::Value> {
-        PairValue { first: self.first.highest(), second: self.second.highest() }
+        PairValue {
+            first: self.first.highest(),
+            second: self.second.highest(),
+        }
     }
 
     fn is_value(&self, v: PairValue<A::Value, B::Value>) -> bool {
         self.first.is_value(v.first) && self.second.is_value(v.second)
     }
 
-    fn meet_values(&self, u: PairValue<A::Value, B::Value>, v: PairValue<A::Value, B::Value>) -> PairValue<A::Value, B::Value> {
-        PairValue { first: self.first.meet_values(u.first, v.first), second: self.second.meet_values(u.second, v.second) }
+    fn meet_values(
+        &self,
+        u: PairValue<A::Value, B::Value>,
+        v: PairValue<A::Value, B::Value>,
+    ) -> PairValue<A::Value, B::Value> {
+        PairValue {
+            first: self.first.meet_values(u.first, v.first),
+            second: self.second.meet_values(u.second, v.second),
+        }
     }
 
-    fn join_values(&self, u: PairValue<A::Value, B::Value>, v: PairValue<A::Value, B::Value>) -> PairValue<A::Value, B::Value> {
-        PairValue { first: self.first.join_values(u.first, v.first), second: self.second.join_values(u.second, v.second) }
+    fn join_values(
+        &self,
+        u: PairValue<A::Value, B::Value>,
+        v: PairValue<A::Value, B::Value>,
+    ) -> PairValue<A::Value, B::Value> {
+        PairValue {
+            first: self.first.join_values(u.first, v.first),
+            second: self.second.join_values(u.second, v.second),
+        }
     }
 
-    fn leq_values(&self, u: PairValue<A::Value, B::Value>, v: PairValue<A::Value, B::Value>) -> bool {
+    fn leq_values(
+        &self,
+        u: PairValue<A::Value, B::Value>,
+        v: PairValue<A::Value, B::Value>,
+    ) -> bool {
         self.first.leq_values(u.first, v.first) && self.second.leq_values(u.second, v.second)
     }
 
     fn cut_count(&self) -> u32 {
-        if self.size() > 4096 { 0 } else { self.first.cut_count() + self.second.cut_count() }
+        if self.size() > 4096 {
+            0
+        } else {
+            self.first.cut_count() + self.second.cut_count()
+        }
     }
 
     // The first part's cuts come first, each with lowest beside it.
@@ -68,10 +87,12 @@ pub impl<A: Scale, B: Scale> Scale for Pair<A, B> as PairScale {
         let h = self.first.cut_count();
         if j < h {
             let first = self.first.cut(j)?;
-            Some(PairValue { first, second: self.second.lowest() })
+            let second = self.second.lowest();
+            Some(PairValue { first, second })
         } else {
             let second = self.second.cut(j - h)?;
-            Some(PairValue { first: self.first.lowest(), second })
+            let first = self.first.lowest();
+            Some(PairValue { first, second })
         }
     }
 
@@ -82,10 +103,12 @@ pub impl<A: Scale, B: Scale> Scale for Pair<A, B> as PairScale {
         let h = self.first.cut_count();
         if j < h {
             let first = self.first.ceiling(j)?;
-            Some(PairValue { first, second: self.second.highest() })
+            let second = self.second.highest();
+            Some(PairValue { first, second })
         } else {
             let second = self.second.ceiling(j - h)?;
-            Some(PairValue { first: self.first.highest(), second })
+            let first = self.first.highest();
+            Some(PairValue { first, second })
         }
     }
 
@@ -121,7 +144,10 @@ pub impl<A: Logic, B: Logic> Logic for Pair<A, B> as PairLogic {
     ghost partners = { λ s. pair-partner (A·Scale .model (s .first) .cuts) (A·Logic .partners (s .first)) (B·Logic .partners (s .second)) };
 
     fn opposite_value(&self, v: PairValue<A::Value, B::Value>) -> PairValue<A::Value, B::Value> {
-        PairValue { first: self.first.opposite_value(v.first), second: self.second.opposite_value(v.second) }
+        PairValue {
+            first: self.first.opposite_value(v.first),
+            second: self.second.opposite_value(v.second),
+        }
     }
 
     fn partner(&self, j: u32) -> Option<u32> {

@@ -11,18 +11,10 @@ pub struct TwistValue<V> {
     pub con: V,
 }
 
-// The twist over a scale: a logic, though the scale beneath need have no opposite.
+// The twist over a scale: a logic, though the scale beneath need have no opposite. Any scale makes one.
 #[derive(Drop)]
 pub struct Twist<S> {
     pub scale: S,
-}
-
-impl<S> Twist<S> {
-    pub fn new(scale: S) -> Twist<S>
-        ensures { λ r. ⌜ r .scale ≡ scale ⌝ }
-    {
-        Twist { scale }
-    }
 }
 
 pub impl<S: Scale> Scale for Twist<S> as TwistScale {
@@ -31,23 +23,43 @@ pub impl<S: Scale> Scale for Twist<S> as TwistScale {
     ghost model = { λ s. twist-model (S·Scale .model (s .scale)) };
 
     fn lowest(&self) -> TwistValue<S::Value> {
-        TwistValue { pro: self.scale.lowest(), con: self.scale.highest() }
+        TwistValue {
+            pro: self.scale.lowest(),
+            con: self.scale.highest(),
+        }
     }
 
     fn highest(&self) -> TwistValue<S::Value> {
-        TwistValue { pro: self.scale.highest(), con: self.scale.lowest() }
+        TwistValue {
+            pro: self.scale.highest(),
+            con: self.scale.lowest(),
+        }
     }
 
     fn is_value(&self, v: TwistValue<S::Value>) -> bool {
         self.scale.is_value(v.pro) && self.scale.is_value(v.con)
     }
 
-    fn meet_values(&self, u: TwistValue<S::Value>, v: TwistValue<S::Value>) -> TwistValue<S::Value> {
-        TwistValue { pro: self.scale.meet_values(u.pro, v.pro), con: self.scale.join_values(u.con, v.con) }
+    fn meet_values(
+        &self,
+        u: TwistValue<S::Value>,
+        v: TwistValue<S::Value>,
+    ) -> TwistValue<S::Value> {
+        TwistValue {
+            pro: self.scale.meet_values(u.pro, v.pro),
+            con: self.scale.join_values(u.con, v.con),
+        }
     }
 
-    fn join_values(&self, u: TwistValue<S::Value>, v: TwistValue<S::Value>) -> TwistValue<S::Value> {
-        TwistValue { pro: self.scale.join_values(u.pro, v.pro), con: self.scale.meet_values(u.con, v.con) }
+    fn join_values(
+        &self,
+        u: TwistValue<S::Value>,
+        v: TwistValue<S::Value>,
+    ) -> TwistValue<S::Value> {
+        TwistValue {
+            pro: self.scale.join_values(u.pro, v.pro),
+            con: self.scale.meet_values(u.con, v.con),
+        }
     }
 
     fn leq_values(&self, u: TwistValue<S::Value>, v: TwistValue<S::Value>) -> bool {
@@ -67,10 +79,12 @@ pub impl<S: Scale> Scale for Twist<S> as TwistScale {
         let h = self.scale.cut_count();
         if j < h {
             let pro = self.scale.cut(j)?;
-            Some(TwistValue { pro, con: self.scale.highest() })
+            let con = self.scale.highest();
+            Some(TwistValue { pro, con })
         } else {
             let con = self.scale.ceiling(j - h)?;
-            Some(TwistValue { pro: self.scale.lowest(), con })
+            let pro = self.scale.lowest();
+            Some(TwistValue { pro, con })
         }
     }
 
@@ -81,10 +95,12 @@ pub impl<S: Scale> Scale for Twist<S> as TwistScale {
         let h = self.scale.cut_count();
         if j < h {
             let pro = self.scale.ceiling(j)?;
-            Some(TwistValue { pro, con: self.scale.lowest() })
+            let con = self.scale.lowest();
+            Some(TwistValue { pro, con })
         } else {
             let con = self.scale.cut(j - h)?;
-            Some(TwistValue { pro: self.scale.highest(), con })
+            let pro = self.scale.highest();
+            Some(TwistValue { pro, con })
         }
     }
 
@@ -121,7 +137,10 @@ pub impl<S: Scale> Logic for Twist<S> as TwistLogic {
     ghost partners = { λ s. twist-partner (S·Scale .model (s .scale) .cuts) };
 
     fn opposite_value(&self, v: TwistValue<S::Value>) -> TwistValue<S::Value> {
-        TwistValue { pro: v.con, con: v.pro }
+        TwistValue {
+            pro: v.con,
+            con: v.pro,
+        }
     }
 
     fn partner(&self, j: u32) -> Option<u32> {

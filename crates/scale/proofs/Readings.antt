@@ -25,6 +25,6 @@ module _ {V : Type 0} (m : Model V) (l : Lawful m) where
   pub few-cuts : m .cuts < 4096
   few-cuts =
       elim (cases-lt (m .size) 4097) [
-        inl h ↦ omega (arith, l .counted (omega arith) .fewer)
-      | inr h ↦ omega (arith, l .no-cuts (omega (arith, l .at-most)))
+        | inl h ↦ omega (arith, l .counted (omega arith) .fewer)
+        | inr h ↦ omega (arith, l .no-cuts (omega (arith, l .at-most)))
       ]

@@ -7,6 +7,8 @@ ghost use Rattle.scale.specs.Model.{Model, Is, read, only-if, cut-at, ceiling-
 ghost use Rattle.scale.specs.Laws.{Lawful, Opposed};
 ghost use Rattle.scale.specs.Refusals.{refusal-number, refusal-name};
 
+pub mod numbers;
+
 // Why a logic was refused.
 #[derive(Clone, Copy, PartialEq, Eq, Debug)]
 pub enum Refusal {
