@@ -1,0 +1,5 @@
+pub mod Steps
+pub mod Whole
+pub mod Lines
+pub mod Forms
+pub mod Turns

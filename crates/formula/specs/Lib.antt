@@ -1,0 +1,4 @@
+pub mod Grammar
+pub mod Words
+pub mod Read
+pub mod Tells

@@ -1,0 +1,4 @@
+pub mod Finite
+pub mod Orders
+pub mod Words
+pub mod LawTests

@@ -1,0 +1,5 @@
+pub mod Entries
+pub mod Bounds
+pub mod Writes
+pub mod Turns
+pub mod Lines

@@ -1,0 +1,14 @@
+pub mod LineOnce
+pub mod Trees
+pub mod Verdicts
+pub mod Alike
+pub mod Formulas
+pub mod Memory
+pub mod Places
+pub mod Agree
+pub mod Keeps
+pub mod Lent
+pub mod Calls
+pub mod Texts
+pub mod Filling
+pub mod LinesSettled

@@ -1,0 +1,9 @@
+pub mod Refusals
+pub mod Layout
+pub mod Lines
+pub mod Sheet
+pub mod Logics
+pub mod Verdicts
+pub mod Filling
+pub mod Account
+pub mod Runs
