@@ -97,7 +97,7 @@ module _ {V : Type 0} (o : Ops V) (a : Sound o) (n : ℕ) (u : Until) (z turned 
 
   pub round-ready : Holds-values o n s z → Turned o n (u .paths) z turned s t → length t ≡ length s → Writable o n t (Round u z turned) (z + n)
   round-ready v r len =
-      let sides = and-parts _ _ (p .named) in
+      let sides : (side-by n turned (u .before) ≡ true) × (side-by n turned (u .end) ≡ true) = and-parts _ _ (p .named) in
       let lies : (f : Side) → side-by n turned f ≡ true → side-rows (λ x. (x + n ≤ length t) × ((x + n ≤ z + n) ⊎ (z + n + n ≤ x))) f =
       λ f e. side-lies n turned (z + n) (length t) f (omega (arith, p .to-row)) (omega (arith, p .to-row, p .work-rows, len)) e in
       record {
@@ -125,16 +125,14 @@ module _ {V : Type 0} (o : Ops V) (a : Sound o) (n : ℕ) (u : Until) (z turned 
         spared = λ k off behind. w .kept k behind ∙ turned-kept (u .paths) r k off;
       }
 
--- the row at z can be cleared, and copied from the row behind it
-pub clear-ready : {V : Type 0} (o : Ops V) (n : ℕ) (u : Until) (z turned : ℕ) (s : List V) → Placed n 0 (Untils u) turned z (length s) → Writable o n s (Copied Bottom) z
-clear-ready o n u z turned s p = record { inside = omega (arith, p .work-rows); arrows = omega (arith, p .entries, p .to-row); marks = tt; rows = tt; values = tt }
-
-pub copy-ready : {V : Type 0} (o : Ops V) (n : ℕ) (u : Until) (z turned : ℕ) (s : List V) → Placed n 0 (Untils u) turned z (length s) → Writable o n s (Copied (At (z + n))) z
-copy-ready o n u z turned s p = record {
+-- the row at z can be written from a side that does not name it
+pub copy-ready : {V : Type 0} (o : Ops V) (n : ℕ) (u : Until) (z turned : ℕ) (s : List V) → Placed n 0 (Untils u) turned z (length s) →
+    (f : Side) → side-rows (λ x. (x + n ≤ length s) × ((x + n ≤ z) ⊎ (z + n ≤ x))) f → Writable o n s (Copied f) z
+copy-ready o n u z turned s p f rows = record {
   inside = omega (arith, p .work-rows);
   arrows = omega (arith, p .entries, p .to-row);
   marks = tt;
-  rows = (omega (arith, p .work-rows), inr (omega arith));
+  rows = rows;
   values = tt;
 }
 

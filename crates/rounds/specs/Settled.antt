@@ -2,11 +2,11 @@
 use mathlib.Core.Path.{_≡_}
 use mathlib.Core.Bool.{Bool, _&&_}
 use mathlib.Core.List.{List}
-use Prim.Native.Nat.{ℕ, _+_, _<_, _≤_}
+use Prim.Native.Nat.{ℕ, _+_, _≤_}
 use lib.Dec.{leb}
 use lib.ListN.{getD}
 use Rattle.scale.specs.Model.{Model, most-values}
-use Rattle.ctl.specs.Operations.{Ops, Valid}
+use Rattle.ctl.specs.Operations.{Ops}
 use Rattle.ctl.specs.Formulas.{Formula}
 use Rattle.ctl.specs.Values.{Value}
 use Rattle.steps.specs.declared.Step.{Step}

@@ -29,6 +29,7 @@ abbrev pub next-at : {V : Type 0} → Ops V → ℕ → List V → Paths → ℕ
 next-at o n s One z turned i = ex-at o n s z i
 next-at o n s All z turned i = o .meet (o .opposite (ex-at o n s turned i)) (ex-at o n s z i)
 
+-- The entry that a source gives at each stage.
 abbrev pub source-of : {V : Type 0} → Ops V → ℕ → List V → Source → Row V
 source-of o n s (Mark m a) i = mark-at o n s m a i
 source-of o n s (Copied f) i = side-of o s f i

@@ -68,7 +68,7 @@ pub(crate) fn settle_until<L: Logic>(
     ensures { λ r. ⌜ Rested (ops-of (L·Scale .model (now (logic .entry))) (L·Logic .opposes (now (logic .entry))) (L·Logic .partners (now (logic .entry)))) n until z turned (now (s .entry)) r (now (s .exit)) ⌝ }
 {
     write_row(logic, s, n, Source::Copied(Side::Bottom), z);
-    let mut count = 0;
+    let mut count: usize = 0;
     'rounds: loop {
         run_round(logic, s, n, until, z, turned);
         if same_rows(logic, s, n, z, z + n) {

@@ -2,13 +2,14 @@
 use mathlib.Core.Path.{_≡_}
 use mathlib.Core.Bool.{Bool, true, _&&_}
 use Prim.Native.Nat.{ℕ, _+_, _*_, _≤_}
+use lib.Dec.{leb}
 use native.Mathlib.Nat.{mul-add}
 use native.Mathlib.Omega.{arith}
 use Rattle.std.proofs.shelf.Tests.{and-from, and-parts, le-leb, leb-true}
 use Rattle.steps.specs.declared.Until.{Until}
 use Rattle.steps.specs.declared.Step.{Step}
 use Rattle.steps.specs.declared.Step.the-variants.{Until as Untils}
-use Rattle.steps.specs.Steps.{step-by, laid}
+use Rattle.steps.specs.Steps.{ends-by, step-by, laid}
 
 pub record Placed (n a : ℕ) (step : Step) (to work len : ℕ) : Type 0 where
   pub entries : n * n + n * a ≤ to
@@ -18,11 +19,11 @@ pub record Placed (n a : ℕ) (step : Step) (to work len : ℕ) : Type 0 where
 
 pub placed : (n a : ℕ) (step : Step) (to work len : ℕ) → laid n a step to work len ≡ true → Placed n a step to work len
 placed n a step to work len e =
-    let halves = and-parts _ _ e in
-    let front = and-parts _ _ (halves .0) in
-    let back = and-parts _ _ (halves .1) in
+    let halves = and-parts (leb (n * (n + a)) to && step-by n a to step) (ends-by n work to && leb (work + (n + n)) len) e in
+    let front = and-parts (leb (n * (n + a)) to) (step-by n a to step) (halves .0) in
+    let back = and-parts (ends-by n work to) (leb (work + (n + n)) len) (halves .1) in
     record {
-      entries = omega (arith, leb-true _ _ (front .0), mul-add n n a);
+      entries = omega (arith, leb-true (n * (n + a)) to (front .0), mul-add n n a);
       named = front .1;
       to-row = leb-true _ _ (back .0);
       work-rows = leb-true _ _ (back .1);

@@ -1,10 +1,9 @@
 -- The step of a line: what its row is made of, and its formula.
 use mathlib.Core.Path.{_≡_}
-use mathlib.Core.Bool.{Bool, true, false, _&&_}
+use mathlib.Core.Bool.{Bool, true, _&&_}
 use mathlib.Core.List.{List}
-use Prim.Native.Nat.{ℕ, _*_, _+_, _<_, _≤_}
+use Prim.Native.Nat.{ℕ, _*_, _+_}
 use lib.Dec.{leb, ltb}
-use lib.ListN.{getD}
 use Rattle.ctl.specs.Operations.{Ops, as-read}
 use Rattle.ctl.specs.Formulas.{Plan, Formula, F, T, mark, not, EX, AX, and, or, until}
 use Rattle.ctl.specs.Values.{Row, Same, Least, Value, Rounds, Takes, ex, ax, round}
@@ -55,6 +54,7 @@ side-formula of Top = T
 side-formula of (At place) = of place
 side-formula of (Not place) = not (of place)
 
+-- The formula of an until between two sides.
 abbrev pub until-formula : (ℕ → Formula) → Until → Formula
 until-formula of u = until (u .paths) (side-formula of (u .before)) (side-formula of (u .end))
 

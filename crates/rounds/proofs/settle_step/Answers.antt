@@ -1,3 +1,4 @@
+use Rattle.scale.specs.Model.{most-values}
 use Rattle.ctl.specs.Operations.{ops-of, Small}
 use Rattle.ctl.proofs.Cuts.{cutting}
 use Rattle.std.proofs.shelf.Tests.{and-from, leb-true}
@@ -9,7 +10,7 @@ use Rattle.rounds.proofs.settle_step.Needs as need
 pub returns : need.returns
 returns g c =
     let l = c .args .logic .now in let m = g .L·Scale .model l in let opp = g .L·Logic .opposes l in let par = g .L·Logic .partners l in
-    let small : Small m = leb-true _ _ (sym (c .if-not-has-readings .ensures tt .answer)) in
+    let small : Small m = leb-true (m .size) most-values (sym (c .if-not-has-readings .ensures tt .answer)) in
     let cuts = cutting m opp par (g .L·Scale·met .lawful l) (g .L·Logic·met .opposed l) small in
     let reads = opposite-read m opp par (g .L·Scale·met .lawful l) (g .L·Logic·met .opposed l) in
     record {

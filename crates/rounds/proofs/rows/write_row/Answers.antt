@@ -7,7 +7,7 @@ pub entry-at-v-requires : need.entry-at-v-requires
 entry-at-v-requires g c κs =
     let l = c .args .logic .now in let o = ops-of (g .L·Scale .model l) (g .L·Logic .opposes l) (g .L·Logic .partners l) in
     record {
-      stage = c .loop-i-test .taken;
+      stage = omega arith;
       reads = readable o (c .args .n) (c .args .place) (c .args .s .now) (c .loop-i .s) (c .loop-i .i) (c .loop-i .kept .i-end) (c .args .source) (c .pre) (c .loop-i .inv) (c .loop-i .kept .s);
     }
 

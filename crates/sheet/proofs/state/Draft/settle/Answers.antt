@@ -40,12 +40,21 @@ returns g c =
     let Q : ℕ → Type 0 = λ k. Filled l (d .stages) (d .marks) (said .0) s k r t in
     let filled : Filled l (d .stages) (d .marks) (said .0) s (held (d .lines)) r t = subst Q is (c .settle-lines-rounds .ensures (said .0) (subst P (sym is) (said .1))) in
     let st =
-          does l w settle [] (rounds r) u tt judged
-          (record {
-            reported = r; answered = refl; state = refl; same-stages = refl; same-marks = refl; same-lines = refl; same-words = refl;
-            same-length = c .settle-lines-rounds .kept .stretch;
-            said = said .0; says = said .1;
-            counts = all-counted l (d .stages) (d .marks) (said .0) s (held (d .lines)) r t (sym (said .1 .all)) filled;
-            values = filled .values; valid = filled .valid; kept = filled .kept;
-          }) in
+    does l w settle [] (rounds r) u tt judged
+    (record {
+      reported = r;
+      answered = refl;
+      state = refl;
+      same-stages = refl;
+      same-marks = refl;
+      same-lines = refl;
+      same-words = refl;
+      same-length = c .settle-lines-rounds .kept .stretch;
+      said = said .0;
+      says = said .1;
+      counts = all-counted l (d .stages) (d .marks) (said .0) s (held (d .lines)) r t (sym (said .1 .all)) filled;
+      values = filled .values;
+      valid = filled .valid;
+      kept = filled .kept;
+    }) in
     record { step = st; law = told m (g .L·Logic .opposes x) (g .L·Logic .partners x) (g .L·Scale·met .lawful x) (g .L·Logic·met .opposed x) w settle (rounds r) u st }
