@@ -1,0 +1,4 @@
+mod Six
+mod SixCuts
+mod Tried
+mod Hold

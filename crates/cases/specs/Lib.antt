@@ -1,0 +1,3 @@
+pub mod Logics
+pub mod Facts
+pub mod Cases
