@@ -11,6 +11,7 @@ use Rattle.std.proofs.shelf.Lists.{length-replicate}
 use Rattle.scale.specs.Model.{Model, most-values}
 use Rattle.ctl.specs.Operations.{Small, Carries}
 use Rattle.ctl.specs.Readings.{Holds}
+use Rattle.ctl.specs.Values.{Row, Value}
 use Rattle.ctl.specs.Theorems.{Meaning}
 use Rattle.sheet.specs.declared.state.Draft.{Draft}
 use Rattle.sheet.specs.declared.state.Refusal.{Refusal}
@@ -62,6 +63,11 @@ module _ {V : Type 0} (l : Logic-of V) (known : Small (l .model) → Meaning (op
       subst (λ z. Carries (ops l) j z ↔ Holds (ops l) (plan x) (formula (x .lines) k) j i) is
       (m .agrees (plan x) (formula (x .lines) k) (p .0) (p .2) j h i (p .3))
 
+  value-told : (x : Account V) (k i : ℕ) (v : Verdict) (b : Reply V) (y : V) → Replies l x (read-at k i) v b → b ≡ value y →
+      (z : Row V) × Value (ops l) (plan x) (formula (x .lines) k) z × (y ≡ z i)
+  value-told x k i (refuse r) b y p q = no-way (cc)
+  value-told x k i (accept new) b y p q = let e = p .1 in let is : y ≡ p .0 i = cc in (p .0, p .2, is)
+
   -- the rounds reported
   rounds-told : (x : Account V) (vs ws : ℕ) (P : Type 0) (c : Call) (v : Verdict) (b : Reply V) (r : ℕ) →
       Judged (l .model) (x .stages) (x .marks) vs ws (length (x .lines)) P c v → Replies l x c v b → b ≡ rounds r → r ≤ x .stages
@@ -89,6 +95,7 @@ module _ {V : Type 0} (l : Logic-of V) (known : Small (l .model) → Meaning (op
     judged = d;
     only = λ u f. judges-once x w st e u v f d;
     acceptance = says-so x (e .call) v b p;
+    valued = λ k i y c q. value-told x k i v b y (subst (λ z. Replies l x z v b) c p) q;
     reading = λ k i y c q.
         let P : Call → Type 0 = λ z. Judged (l .model) (x .stages) (x .marks) (e .values-lent) (e .words-lent) (length (x .lines)) (Fitting (x .marks) (x .lines)) z v in
         read-told x (e .values-lent) (e .words-lent) (Fitting (x .marks) (x .lines)) k i v b y (subst P c d) (subst (λ z. Replies l x z v b) c p) q;

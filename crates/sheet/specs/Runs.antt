@@ -8,6 +8,7 @@ use Rattle.std.specs.declared.result.Result.{Result}
 use Rattle.std.specs.declared.result.Result.the-variants.{Ok, Err}
 use Rattle.ctl.specs.Operations.{Carries}
 use Rattle.ctl.specs.Readings.{Holds}
+use Rattle.ctl.specs.Values.{Row, Value}
 use Rattle.sheet.specs.declared.state.Draft.{Draft}
 use Rattle.sheet.specs.declared.state.Refusal.{Refusal}
 use Rattle.sheet.specs.Lines.{formula}
@@ -64,6 +65,8 @@ pub record Told {V : Type 0} (l : Logic-of V) (x : Account V) (e : Event) (v : V
   pub judged : Judges (l .model) x e v
   pub only : (u : Verdict) → Judges (l .model) x e u → u ≡ v
   pub acceptance : Says-so v a
+  -- the value read is the value of the line's formula over the entries accepted so far
+  pub valued : (k s : ℕ) (y : V) → e .call ≡ read-at k s → a ≡ value y → (z : Row V) × Value (ops l) (plan x) (formula (x .lines) k) z × (y ≡ z s)
   -- a cut is at or below the value read exactly when the line's reading at that stage and cut holds on the entries accepted so far
   pub reading : (k s : ℕ) (y : V) → e .call ≡ read-at k s → a ≡ value y → (j : ℕ) → j < l .model .cuts →
       Carries (ops l) j y ↔ Holds (ops l) (plan x) (formula (x .lines) k) j s

@@ -165,3 +165,29 @@ fn run(rt: &LibcRuntime) -> Result<(), AnyError> {
 fn main(rt: LibcRuntime) -> Result<(), AnyError> {
     rt.report(run(&rt))
 }
+
+#[cfg(test)]
+mod tests {
+    use super::*;
+    use std::test::*;
+
+    // The number of the refusal of some bytes, or 0 for a table.
+    fn refusal_of(heap: Global, bytes: &[u8]) -> u8 {
+        let mut table = Table::new();
+        match load(heap, &mut table, bytes) {
+            Ok(_) => 0,
+            Err(Fault::Memory) => 255,
+            Err(Fault::CutShort) => 17,
+            Err(Fault::Refused(why)) => why.number(),
+        }
+    }
+
+    #[test]
+    fn inputs(rt: LibcRuntime) -> Result<(), Fail> {
+        check_eq(refusal_of(rt.alloc(), &[]), 11)?;
+        check_eq(refusal_of(rt.alloc(), &[1, 0, 1]), 17)?;
+        check_eq(refusal_of(rt.alloc(), &[1, 0, 1, 0x60, 3, 0, 0]), 17)?;
+        check_eq(refusal_of(rt.alloc(), &[1, 0, 1, 0x60, 3, 0, 0, 0x60]), 0)?;
+        check_eq(refusal_of(rt.alloc(), &[0u8; 68]), 11)
+    }
+}
