@@ -297,14 +297,23 @@ const ROW: [Entry; 4] = [
     Entry::Mark(2, 0, 1),
 ];
 
-// The rounds that a formula takes on the row of three stages.
+// The same row, its arrows leading to smaller stages: a round that read what it has written would end it in one.
+const ROW_BACK: [Entry; 4] = [
+    Entry::Arrow(2, 1, 1),
+    Entry::Arrow(1, 0, 1),
+    Entry::Arrow(0, 0, 1),
+    Entry::Mark(0, 0, 1),
+];
+
+// The rounds that a formula takes on a row of three stages.
 fn row_rounds<L: Logic>(
     logic: &L,
     stretch: &mut [L::Value],
     words: &mut [u32],
+    row: [Entry; 4],
     text: &'static str,
 ) -> u8 {
-    let [a, b, c, d] = ROW;
+    let [a, b, c, d] = row;
     rounds(
         logic,
         stretch,
@@ -320,7 +329,11 @@ fn three_stages() -> Result<(), Fail> {
     let c = Chain::new(2)?;
     let mut stretch = [0u8; 210];
     let mut words = [0u32; 64];
-    check_eq(row_rounds(&c, &mut stretch, &mut words, "EF p"), 3)?;
-    check_eq(row_rounds(&c, &mut stretch, &mut words, "EF F"), 0)?;
-    check_eq(row_rounds(&c, &mut stretch, &mut words, "EF T"), 1)
+    check_eq(row_rounds(&c, &mut stretch, &mut words, ROW, "EF p"), 3)?;
+    check_eq(
+        row_rounds(&c, &mut stretch, &mut words, ROW_BACK, "EF p"),
+        3,
+    )?;
+    check_eq(row_rounds(&c, &mut stretch, &mut words, ROW, "EF F"), 0)?;
+    check_eq(row_rounds(&c, &mut stretch, &mut words, ROW, "EF T"), 1)
 }
