@@ -1,4 +1,6 @@
 // The worked cases of the value logics and of formulas on plans: what the definitions that the contracts cite say of them.
+#![tactic(auto)]
+
 ghost use Rattle.std.specs.Prelude.{◌≡◌, length};
 ghost use Rattle.cases.specs.Cases.{cases, CasesHold};
 

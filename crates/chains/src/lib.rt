@@ -1,4 +1,6 @@
 // Two makers of logics whose values are plain numbers: chains, and sets of members.
+#![tactic(auto)]
+
 pub mod chain;
 pub mod sets;
 

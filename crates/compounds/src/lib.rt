@@ -1,4 +1,6 @@
 // Two makers of logics from others, which nest without end: pairs of logics, and twists over scales.
+#![tactic(auto)]
+
 pub mod pair;
 pub mod twist;
 

@@ -1,4 +1,6 @@
 // Branching-time formulas over any logic: their values, their readings at a cut, and the theorems that join the two.
+#![tactic(auto)]
+
 ghost use Rattle.std.specs.Prelude.{◌≡◌, true, nat_le};
 ghost use Rattle.scale.specs.Model.{most_values};
 ghost use Rattle.ctl.specs.Operations.{ops_of};

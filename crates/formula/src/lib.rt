@@ -1,4 +1,6 @@
 // Reads a formula's text, and appends the lines of its tree to the words of a sheet.
+#![tactic(auto)]
+
 ghost use Rattle.std.specs.Prelude.{◌≡◌, ℕ, ◌+◌, ◌-◌, ◌<◌, ◌≤◌, List, length, slice_set};
 ghost use Rattle.lines.specs.Word.{word_of};
 ghost use Rattle.tokens.specs.Names.{names_of};

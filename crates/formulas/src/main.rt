@@ -1,5 +1,7 @@
 // Reads a line of names and then formulas, one to a line, from standard input. For each formula it prints the text and the
 // line words of its tree with their meaning, or the refusal.
+#![tactic(auto)]
+
 use anyhow::anyhow;
 use lines::Line;
 use std::io::{BufRead, BufReader, Read, Write};

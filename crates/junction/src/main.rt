@@ -1,4 +1,6 @@
 // A signalled junction with a pedestrian stage: its plan is entered over six values, settled, read, changed and read again.
+#![tactic(auto)]
+
 mod answers;
 mod entry;
 mod moves;

@@ -1,5 +1,7 @@
 // Line words: a sheet keeps each node of a formula as one 32-bit word, and this crate writes and reads such words.
 // Bits 31-28 are 4, bits 27-20 the operator's number, bits 19-16 zero, bits 15-8 the left field, bits 7-0 the right one.
+#![tactic(auto)]
+
 ghost use Rattle.std.specs.Prelude.{◌≡◌, ℕ, ◌+◌, ◌*◌, ◌<◌, Some, Decides, MatchOption, ◌≢◌};
 ghost use Rattle.lines.specs.Word.{unary_number, binary_number, HasFields, word_of, FitsAt, WellFormed, ReadsAs, Undoes};
 ghost use Rattle.lines.specs.Refusals.{number_of, name_of, shown_refusal};

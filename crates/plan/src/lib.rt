@@ -1,4 +1,6 @@
 // Plan files: words that name a logic and spell the calls of a sheet over it, and what those calls answer.
+#![tactic(auto)]
+
 ghost use Rattle.std.specs.Prelude.{◌≡◌, ℕ, ◌<◌, ◌≤◌, [], length, IfOk, ◌≢◌, slice_index};
 ghost use Rattle.words.specs.declared.kind.Kind.TheVariants.{Table as table-kind};
 ghost use Rattle.words.specs.Kinds.{kind_of};

@@ -1,4 +1,6 @@
 // What a plan prints: its outputs in order, and where it stopped, if it did.
+#![tactic(auto)]
+
 ghost use Rattle.std.specs.Prelude.{◌≡◌, List, IfOk, Some, string_bytes};
 ghost use Rattle.report.specs.Texts.{refusal_number, output_text, stop_text, on_a_line, stopped_text, text_of};
 

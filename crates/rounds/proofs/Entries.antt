@@ -1,11 +1,11 @@
 -- The operations on values as operations on patterns, and one more turn of EX.
-use Rattle.std.proofs.Common.{◌≡◌, ℕ, suc, ◌+◌, sym, refl, ap, ◌∙◌, subst, ap₂, add-one}
+use Rattle.std.proofs.Common.{◌≡◌, ℕ, ◌+◌, sym, ap, ◌∙◌, subst, ap₂, add-one}
 use Rattle.scale.specs.Model.{Model, Is, read}
 use Rattle.scale.specs.Laws.{Lawful, Opposed}
 use Rattle.scale.proofs.Readings.{read_is, read_same}
-use Rattle.ctl.specs.Operations.{Ops, ops_of, Valid, as_read}
+use Rattle.ctl.specs.Operations.{Ops, ops_of, as_read}
 use Rattle.ctl.specs.Values.{Row, joined}
-use Rattle.ctl.proofs.Cuts.{Sound, sound, joined_valid}
+use Rattle.ctl.proofs.Cuts.{sound, joined_valid}
 
 module _ {V : Type 0} (m : Model V) (opposite : V → V) (partner : ℕ → ℕ) (l : Lawful m) (op : Opposed m opposite partner) where
   abbrev o : Ops V

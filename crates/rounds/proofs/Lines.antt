@@ -1,10 +1,10 @@
 -- A line's row is prepared and written; it is the value of the line's formula.
-use Rattle.std.proofs.Common.{◌≡◌, ℕ, ◌+◌, ◌*◌, ◌<◌, ◌≤◌, Bool, true, ◌⊎◌, List, length, get_or, sym, refl, ap, ◌∙◌, subst, inl, inr, ⊎_elim, arith}
-use Rattle.std.proofs.lemmas.Bool.{and_parts, leb-true, ltb-true, cond-true}
+use Rattle.std.proofs.Common.{◌≡◌, ℕ, ◌+◌, ◌≤◌, true, ◌⊎◌, List, length, sym, refl, ap, ◌∙◌, subst, inl, inr, ⊎_elim, arith}
+use Rattle.std.proofs.lemmas.Bool.{and_parts, ltb-true, cond-true}
 use Rattle.ctl.specs.Operations.{Ops, Valid, as_read}
 use Rattle.ctl.specs.Formulas.{Plan, Formula}
 use Rattle.ctl.specs.Values.{Row, Same, Least, Value, Rounds, round}
-use Rattle.ctl.proofs.Cuts.{Sound, Cutting, joined_valid}
+use Rattle.ctl.proofs.Cuts.{Cutting, joined_valid}
 use Rattle.ctl.proofs.Stand.{steady, step_same}
 use Rattle.ctl.proofs.Agree.{value_valid, value_once}
 use Rattle.ctl.proofs.Alike.{least_same, rounds_same, other_rows, value_same}
@@ -15,14 +15,14 @@ use Rattle.steps.specs.declared.Step.{Step}
 use Rattle.steps.specs.declared.Step.TheVariants.{Mark, Copied, And, Or, Ex, Ax, Until as Untils, Dual}
 use Rattle.rounds.specs.declared.rows.Source.{Source}
 use Rattle.rounds.specs.declared.rows.Source.TheVariants as source
-use Rattle.steps.specs.Stretch.{row, HoldsValues, plan_of, Off}
-use Rattle.steps.specs.Steps.{side_of, round_of, RowOf, CountOf, side_formula, until_formula, formula_of, SideValued, Valued, StepTakes, side_by}
+use Rattle.steps.specs.Stretch.{row, HoldsValues, plan_of}
+use Rattle.steps.specs.Steps.{side_of, round_of, RowOf, CountOf, side_formula, formula_of, SideValued, Valued, StepTakes, side_by}
 use Rattle.rounds.specs.Sources.{source_of, SideRows, SourceRows, ValueRows, MarksBy, Writable, Written}
 use Rattle.rounds.specs.Rests.{Rested}
 use Rattle.rounds.specs.Settled.{Settled, Prepared}
 use Rattle.steps.proofs.Laid.{Placed}
 use Rattle.rounds.proofs.Bounds.{side_lies}
-use Rattle.rounds.proofs.Turns.{Agree, ex_agrees}
+use Rattle.rounds.proofs.Turns.{ex_agrees}
 
 module _ {V : Type 0} (o : Ops V) (c : Cutting o) (reads : (v : V) → o.opposite (as_read o v) ≡ o.opposite v) (n a to work : ℕ) (s : List V) where
   -- a side is a row of values

@@ -1,10 +1,9 @@
 -- A turn of the loop that settles an until.
-use Rattle.std.proofs.Common.{◌≡◌, ℕ, zero, suc, ◌+◌, ◌*◌, ◌<◌, ◌≤◌, Bool, true, ◌&&◌, ◌⊎◌, List, length, get_or, sym, refl, ap, ◌∙◌, subst, ap₂, inl, inr, ⊎_elim, add-one, arith, below_more}
+use Rattle.std.proofs.Common.{◌≡◌, ℕ, zero, suc, ◌+◌, ◌*◌, ◌<◌, ◌≤◌, true, ◌⊎◌, List, length, get_or, sym, refl, ap, ◌∙◌, subst, ap₂, inl, inr, ⊎_elim, add-one, arith, below_more}
 use Rattle.ctl.specs.declared.Paths.{Paths}
 use Rattle.ctl.specs.declared.Paths.TheVariants.{One, All}
-use Rattle.ctl.specs.Operations.{Ops, Valid, Below, as_read}
-use Rattle.ctl.specs.Formulas.{Plan}
-use Rattle.ctl.specs.Values.{Row, Same, Least, after, Rounds, ex, next, round}
+use Rattle.ctl.specs.Operations.{Ops, Valid, as_read}
+use Rattle.ctl.specs.Values.{Row, Same, Least, after, ex, next}
 use Rattle.ctl.proofs.Cuts.{Sound, Cutting}
 use Rattle.ctl.proofs.Stand.{Steady, steady, step_same, after_valid, early, rests_least}
 use Rattle.ctl.proofs.Alike.{least_same, rounds_same}
@@ -14,8 +13,8 @@ use Rattle.steps.specs.declared.Until.{Until}
 use Rattle.steps.specs.declared.Step.TheVariants.{Until as Untils}
 use Rattle.rounds.specs.declared.rows.Source.TheVariants.{Copied, Round}
 use Rattle.steps.specs.Stretch.{row, HoldsValues, SameRows, plan_of, Off, Kept}
-use Rattle.steps.specs.Steps.{side_of, round_of, side_by, laid}
-use Rattle.rounds.specs.Sources.{next_at, source_of, SideRows, NextRows, Writable, Written}
+use Rattle.steps.specs.Steps.{side_of, round_of, side_by}
+use Rattle.rounds.specs.Sources.{next_at, SideRows, NextRows, Writable, Written}
 use Rattle.rounds.specs.Rests.{Turned, Rounded, Rested}
 use Rattle.std.proofs.lemmas.Bool.{and_parts, leb-true, cond-true}
 use Rattle.rounds.proofs.Bounds.{row_ends, side_lies}

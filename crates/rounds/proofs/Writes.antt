@@ -1,17 +1,16 @@
 -- A row that is written entry by entry reads what it read at first.
-use Rattle.std.proofs.Common.{◌≡◌, ℕ, zero, suc, ◌+◌, ◌*◌, ◌<◌, ◌≤◌, ◌≢◌, ◌⊎◌, List, length, get_or, set, sym, refl, ap, ◌∙◌, subst, ap₂, inl, inr, ⊎_elim, arith, get_or-set_other, get_or-set_same, below_more}
+use Rattle.std.proofs.Common.{◌≡◌, ℕ, zero, suc, ◌+◌, ◌*◌, ◌<◌, ◌≤◌, ◌≢◌, ◌⊎◌, List, length, set, sym, refl, ap, ◌∙◌, subst, ap₂, inl, inr, ⊎_elim, arith, get_or-set_other, get_or-set_same, below_more}
 use Rattle.ctl.specs.declared.Paths.{Paths}
 use Rattle.ctl.specs.declared.Paths.TheVariants.{One, All}
 use Rattle.ctl.specs.Operations.{Ops, Valid, as_read}
 use Rattle.ctl.specs.Values.{Row, Same, joined}
 use Rattle.steps.specs.declared.Side.{Side}
 use Rattle.steps.specs.declared.Side.TheVariants.{Bottom, Top, At, Not}
-use Rattle.steps.specs.declared.Until.{Until}
 use Rattle.rounds.specs.declared.rows.Source.{Source}
 use Rattle.rounds.specs.declared.rows.Source.TheVariants.{Mark, Copied, And, Or, Ex, NotEx, Round}
-use Rattle.steps.specs.Stretch.{row, HoldsValues, plan_of, Off, Kept}
+use Rattle.steps.specs.Stretch.{row, HoldsValues, Kept}
 use Rattle.steps.specs.Steps.{side_of}
-use Rattle.rounds.specs.Sources.{mark_at, ex_at, next_at, source_of, SideRows, SourceRows, NextRows, ValueRows, MarksBy, Readable, Writable, Written}
+use Rattle.rounds.specs.Sources.{ex_at, next_at, source_of, SideRows, SourceRows, NextRows, ValueRows, MarksBy, Readable, Writable}
 use Rattle.rounds.proofs.Bounds.{row_ends, marks_end}
 
 -- i entries of the row at `place` are written from a source of s, which leaves t so far

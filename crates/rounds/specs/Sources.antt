@@ -1,12 +1,11 @@
 -- What one row is written from, entry by entry.
-use Rattle.std.specs.Prelude.{◌≡◌, ℕ, ◌+◌, ◌*◌, ◌<◌, ◌≤◌, ◌⊎◌, List, length}
+use Rattle.std.specs.Prelude.{ℕ, ◌+◌, ◌*◌, ◌<◌, ◌≤◌, ◌⊎◌, List, length}
 use Rattle.ctl.specs.declared.Paths.{Paths}
 use Rattle.ctl.specs.declared.Paths.TheVariants.{One, All}
 use Rattle.ctl.specs.Operations.{Ops, as_read}
 use Rattle.ctl.specs.Values.{Row, Same, ex}
 use Rattle.steps.specs.declared.Side.{Side}
 use Rattle.steps.specs.declared.Side.TheVariants.{Bottom, Top, At, Not}
-use Rattle.steps.specs.declared.Until.{Until}
 use Rattle.rounds.specs.declared.rows.Source.{Source}
 use Rattle.rounds.specs.declared.rows.Source.TheVariants.{Mark, Copied, And, Or, Ex, NotEx, Round}
 use Rattle.steps.specs.Stretch.{row, HoldsValues, plan_of, Kept}

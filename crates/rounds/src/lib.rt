@@ -1,4 +1,6 @@
 // Settling the line of a sheet, over any logic, in a lent stretch of values.
+#![tactic(auto)]
+
 ghost use Rattle.std.specs.Prelude.{◌≡◌, true, length, is_some, Some, None};
 ghost use Rattle.ctl.specs.Operations.{ops_of, Small};
 ghost use Rattle.steps.specs.Steps.{laid};

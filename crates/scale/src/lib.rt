@@ -1,4 +1,6 @@
 // Scales (finite distributive lattices) and logics (scales with an opposite), as traits that hold their laws.
+#![tactic(auto)]
+
 ghost use Rattle.std.specs.Prelude.{◌≡◌, ℕ, ◌<◌, Bool, true, nat_lt};
 ghost use Rattle.scale.specs.Model.{Model, Is, read, only_if, cut_at, ceiling_at, value_at, number_of};
 ghost use Rattle.scale.specs.Laws.{Lawful, Opposed};

@@ -1,4 +1,6 @@
 // Reads the words of a table from standard input, and prints whether they make a logic and how it works.
+#![tactic(auto)]
+
 ghost use Rattle.std.specs.Prelude.{◌≤◌, length, IfOk};
 ghost use Rattle.showtable.specs.Loads.{Loads};
 

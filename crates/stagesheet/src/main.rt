@@ -1,5 +1,7 @@
 // Reads a plan file from standard input, and prints what its words ask for: the rounds of each settling, each value asked, and
 // the refusal at which it stopped, if it did.
+#![tactic(auto)]
+
 use anyhow::anyhow;
 use std::io::{Read, Write};
 

@@ -1,4 +1,6 @@
 // What the row of a line is made of, and where rows lie in a stretch.
+#![tactic(auto)]
+
 ghost use Rattle.std.specs.Prelude.{◌≡◌, ℕ, ◌+◌, ◌*◌, ◌^◌, ◌<◌, Bool, true, false};
 ghost use Rattle.std.specs.Option.{SomeIff};
 ghost use Rattle.steps.specs.Steps.{ends_by, side_by, step_by, laid};

@@ -1,4 +1,6 @@
 // Tables: logics of 2 to 16 values that are loaded from words.
+#![tactic(auto)]
+
 ghost use Rattle.std.specs.Prelude.{◌≡◌, ◌≤◌, true, ◌∷◌, length, replicate, is_ok, Ok, Err, Decides, MatchResult};
 ghost use Rattle.orders.specs.Finite.{Filled};
 ghost use Rattle.orders.specs.Orders.{under, ordered, latticed, spread, opposing, listed, meet_of, join_of, lowest_of, highest_of, cut_count_of, cut_of, cell_of};

@@ -1,5 +1,7 @@
 // The tokens of a formula text. A token is read at a place of the text, behind any spaces there, and a name is handed on
 // as a part of the text.
+#![tactic(auto)]
+
 ghost use Rattle.std.specs.Prelude.{◌≡◌, ℕ, ◌+◌, ◌<◌, ◌≤◌, ◌∷◌, length, drop};
 ghost use Rattle.tokens.specs.Bytes.{in_name, skip, run};
 ghost use Rattle.tokens.specs.Tokens.{next_of, finally_of, globally_of, letter_of, Seen};

@@ -7,19 +7,19 @@ use Rattle.plan.proofs.Plans.{plan_none, plan_other, plan_chain, plan_no_chain, 
 use Rattle.plan.proofs.Sized.{made_so}
 use Rattle.plan.proofs.run_words.Goals as goal
 
-pub returns-in-default : goal.returns-in-default
-returns-in-default c =
+pub returns-in_default : goal.returns-in_default
+returns-in_default c =
     let ws = c.args.words.now in
     let none : length ws ≡ 0 = search rules in
-    plan_none c.args.more ws (vec_items c.stopped.result.outputs) c.stopped.result.stop (nil_from_length ws none) c.stopped.ensures.outputs (c.stopped.ensures.stop ∙ c.word-at.ensures)
+    plan_none c.args.more ws (vec_items c.stopped.result.outputs) c.stopped.result.stop (nil_from_length ws none) c.stopped.ensures.outputs (c.stopped.ensures.stop ∙ c.word_at.ensures)
 
-pub returns-in-default-of : goal.returns-in-default-of
-returns-in-default-of c =
+pub returns-in_default-of : goal.returns-in_default-of
+returns-in_default-of c =
     let ws = c.args.words.now in
     let some : 0 < length ws = search rules in
-    let o = c.stopped-in-default-of.result in
+    let o = c.stopped-in_default-of.result in
     plan_other c.args.more ws (vec_items o.outputs) o.stop (get_or ws 0 0) (take (length ws - 1) (drop 1 ws)) c.of.result (first_rest ws 0 some) c.of.ensures
-    c.in-default-of.not-Chain c.in-default-of.not-Sets c.in-default-of.not-Table c.stopped-in-default-of.ensures.outputs (c.stopped-in-default-of.ensures.stop ∙ c.word-at-in-default-of.ensures)
+    c.in_default-of.not-Chain c.in_default-of.not-Sets c.in_default-of.not-Table c.stopped-in_default-of.ensures.outputs (c.stopped-in_default-of.ensures.stop ∙ c.word_at-in_default-of.ensures)
 
 pub returns-in-Ok : goal.returns-in-Ok
 returns-in-Ok c =
@@ -27,10 +27,10 @@ returns-in-Ok c =
     let some : 0 < length ws = search rules in
     let rest = take (length ws - 1) (drop 1 ws) in
     let e = c.in-Ok.ensures in
-    made_so (λ o. SheetPlan (chain_logic c.in-Ok.chain.n) c.args.more 1 rest (vec_items o.outputs) o.stop) _ c.run-sheet.result
+    made_so (λ o. SheetPlan (chain_logic c.in-Ok.chain.n) c.args.more 1 rest (vec_items o.outputs) o.stop) _ c.run_sheet.result
     (λ o s. plan_chain c.args.more ws (vec_items o.outputs) o.stop (get_or ws 0 0) rest c.of.result (first_rest ws 0 some) c.of.ensures
     c.in-Chain.values c.in-Ok.chain.n c.in-Chain.is e.0 e.1 s)
-    c.run-sheet.ensures
+    c.run_sheet.ensures
 
 pub returns-in-Err : goal.returns-in-Err
 returns-in-Err c =
@@ -47,10 +47,10 @@ returns-in-Ok-new c =
     let some : 0 < length ws = search rules in
     let rest = take (length ws - 1) (drop 1 ws) in
     let e = c.in-Ok-new.ensures in
-    made_so (λ o. SheetPlan (sets_logic c.in-Ok-new.sets.k) c.args.more 1 rest (vec_items o.outputs) o.stop) _ c.run-sheet-in-Ok-new.result
+    made_so (λ o. SheetPlan (sets_logic c.in-Ok-new.sets.k) c.args.more 1 rest (vec_items o.outputs) o.stop) _ c.run_sheet-in-Ok-new.result
     (λ o s. plan_sets c.args.more ws (vec_items o.outputs) o.stop (get_or ws 0 0) rest c.of.result (first_rest ws 0 some) c.of.ensures
     c.in-Sets.members c.in-Ok-new.sets.k c.in-Sets.is e.0 e.1 s)
-    c.run-sheet-in-Ok-new.ensures
+    c.run_sheet-in-Ok-new.ensures
 
 pub returns-in-Err-new : goal.returns-in-Err-new
 returns-in-Err-new c =
@@ -59,4 +59,4 @@ returns-in-Err-new c =
     let o = c.stopped-in-Err-new.result in
     let e = c.in-Err-new.ensures in
     plan_no_sets c.args.more ws (vec_items o.outputs) o.stop (get_or ws 0 0) (take (length ws - 1) (drop 1 ws)) c.of.result (first_rest ws 0 some) c.of.ensures
-    c.in-Sets.members c.in-Err-new.why c.in-Sets.is e.0 e.1 c.stopped-in-Err-new.ensures.outputs (c.stopped-in-Err-new.ensures.stop ∙ c.logic-at-in-Err-new.ensures)
+    c.in-Sets.members c.in-Err-new.why c.in-Sets.is e.0 e.1 c.stopped-in-Err-new.ensures.outputs (c.stopped-in-Err-new.ensures.stop ∙ c.logic_at-in-Err-new.ensures)

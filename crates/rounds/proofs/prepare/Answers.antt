@@ -1,4 +1,4 @@
-use Rattle.std.proofs.Common.{◌≡◌, true, length, sym, subst}
+use Rattle.std.proofs.Common.{length, sym, subst}
 use Rattle.ctl.specs.Operations.{ops_of}
 use Rattle.ctl.proofs.Cuts.{cutting}
 use Rattle.steps.specs.declared.Side.TheVariants.{At, Not}
@@ -11,8 +11,8 @@ use Rattle.steps.proofs.Laid.{Placed, placed, until_laid}
 use Rattle.rounds.proofs.Lines.{load_ready, mark_prepared, copied_prepared, and_prepared, or_prepared, ex_prepared, ax_prepared, until_prepared, dual_prepared}
 use Rattle.rounds.proofs.prepare.Goals as goal
 
-pub write-row-requires : goal.write-row-requires
-write-row-requires g c =
+pub write_row-requires : goal.write_row-requires
+write_row-requires g c =
     let l = c.args.logic.now in let m = g.L.Scale.model l in let opp = g.L.Logic.opposes l in let par = g.L.Logic.partners l in
     let o = ops_of m opp par in let cuts = cutting m opp par (g.met.L.Scale.lawful l) (g.met.L.Logic.opposed l) c.requires.small in
     let reads = opposite_read m opp par (g.met.L.Scale.lawful l) (g.met.L.Logic.opposed l) in
@@ -20,8 +20,8 @@ write-row-requires g c =
     let p : Placed n a (Ex c.in-Ex.place) to work (length s) = subst (λ q. Placed n a q to work (length s)) c.in-Ex.is (placed n a c.args.step to work (length s) c.requires.placed) in
     load_ready o cuts reads n a to work s (Ex c.in-Ex.place) (At c.in-Ex.place) p p.named
 
-pub write-row-requires-in-Ax : goal.write-row-requires-in-Ax
-write-row-requires-in-Ax g c =
+pub write_row-requires-in-Ax : goal.write_row-requires-in-Ax
+write_row-requires-in-Ax g c =
     let l = c.args.logic.now in let m = g.L.Scale.model l in let opp = g.L.Logic.opposes l in let par = g.L.Logic.partners l in
     let o = ops_of m opp par in let cuts = cutting m opp par (g.met.L.Scale.lawful l) (g.met.L.Logic.opposed l) c.requires.small in
     let reads = opposite_read m opp par (g.met.L.Scale.lawful l) (g.met.L.Logic.opposed l) in
@@ -29,8 +29,8 @@ write-row-requires-in-Ax g c =
     let p : Placed n a (Ax c.in-Ax.place) to work (length s) = subst (λ q. Placed n a q to work (length s)) c.in-Ax.is (placed n a c.args.step to work (length s) c.requires.placed) in
     load_ready o cuts reads n a to work s (Ax c.in-Ax.place) (Not c.in-Ax.place) p p.named
 
-pub settle-until-count-requires : goal.settle-until-count-requires
-settle-until-count-requires g c =
+pub settle_until-count-requires : goal.settle_until-count-requires
+settle_until-count-requires g c =
     let l = c.args.logic.now in let m = g.L.Scale.model l in let opp = g.L.Logic.opposes l in let par = g.L.Logic.partners l in
     let o = ops_of m opp par in let cuts = cutting m opp par (g.met.L.Scale.lawful l) (g.met.L.Logic.opposed l) c.requires.small in
     let reads = opposite_read m opp par (g.met.L.Scale.lawful l) (g.met.L.Logic.opposed l) in
@@ -38,8 +38,8 @@ settle-until-count-requires g c =
     let p : Placed n a (Untils c.in-Until.until) to work (length s) = subst (λ q. Placed n a q to work (length s)) c.in-Until.is (placed n a c.args.step to work (length s) c.requires.placed) in
     record { small = c.requires.small; placed = until_laid n a (Untils c.in-Until.until) c.in-Until.until to work (length s) p p.named }
 
-pub settle-until-count-requires-in-Dual : goal.settle-until-count-requires-in-Dual
-settle-until-count-requires-in-Dual g c =
+pub settle_until-count-requires-in-Dual : goal.settle_until-count-requires-in-Dual
+settle_until-count-requires-in-Dual g c =
     let l = c.args.logic.now in let m = g.L.Scale.model l in let opp = g.L.Logic.opposes l in let par = g.L.Logic.partners l in
     let o = ops_of m opp par in let cuts = cutting m opp par (g.met.L.Scale.lawful l) (g.met.L.Logic.opposed l) c.requires.small in
     let reads = opposite_read m opp par (g.met.L.Scale.lawful l) (g.met.L.Logic.opposed l) in
@@ -90,7 +90,7 @@ returns-in-Ex g c =
     let reads = opposite_read m opp par (g.met.L.Scale.lawful l) (g.met.L.Logic.opposed l) in
     let n = c.args.n in let a = c.args.a in let to = c.args.to in let work = c.args.work in let s = c.args.s.now in
     let p : Placed n a (Ex c.in-Ex.place) to work (length s) = subst (λ q. Placed n a q to work (length s)) c.in-Ex.is (placed n a c.args.step to work (length s) c.requires.placed) in
-    subst (λ (q : Step). Prepared o n a q to work s (source.Ex work) 0 c.write-row.new.s) (sym c.in-Ex.is) (ex_prepared o cuts reads n a to work s c.write-row.new.s c.write-row.auto.s c.in-Ex.place p c.write-row.ensures)
+    subst (λ (q : Step). Prepared o n a q to work s (source.Ex work) 0 c.write_row.new.s) (sym c.in-Ex.is) (ex_prepared o cuts reads n a to work s c.write_row.new.s c.write_row.auto.s c.in-Ex.place p c.write_row.ensures)
 
 pub returns-in-Ax : goal.returns-in-Ax
 returns-in-Ax g c =
@@ -99,7 +99,7 @@ returns-in-Ax g c =
     let reads = opposite_read m opp par (g.met.L.Scale.lawful l) (g.met.L.Logic.opposed l) in
     let n = c.args.n in let a = c.args.a in let to = c.args.to in let work = c.args.work in let s = c.args.s.now in
     let p : Placed n a (Ax c.in-Ax.place) to work (length s) = subst (λ q. Placed n a q to work (length s)) c.in-Ax.is (placed n a c.args.step to work (length s) c.requires.placed) in
-    subst (λ (q : Step). Prepared o n a q to work s (source.NotEx work) 0 c.write-row-in-Ax.new.s) (sym c.in-Ax.is) (ax_prepared o cuts reads n a to work s c.write-row-in-Ax.new.s c.write-row-in-Ax.auto.s c.in-Ax.place p c.write-row-in-Ax.ensures)
+    subst (λ (q : Step). Prepared o n a q to work s (source.NotEx work) 0 c.write_row-in-Ax.new.s) (sym c.in-Ax.is) (ax_prepared o cuts reads n a to work s c.write_row-in-Ax.new.s c.write_row-in-Ax.auto.s c.in-Ax.place p c.write_row-in-Ax.ensures)
 
 pub returns-in-Until : goal.returns-in-Until
 returns-in-Until g c =
@@ -108,7 +108,7 @@ returns-in-Until g c =
     let reads = opposite_read m opp par (g.met.L.Scale.lawful l) (g.met.L.Logic.opposed l) in
     let n = c.args.n in let a = c.args.a in let to = c.args.to in let work = c.args.work in let s = c.args.s.now in
     let p : Placed n a (Untils c.in-Until.until) to work (length s) = subst (λ q. Placed n a q to work (length s)) c.in-Until.is (placed n a c.args.step to work (length s) c.requires.placed) in
-    subst (λ (q : Step). Prepared o n a q to work s (source.Copied (At work)) c.settle-until-count.result c.settle-until-count.new.s) (sym c.in-Until.is) (until_prepared o cuts reads n a to work s c.settle-until-count.new.s c.settle-until-count.auto.s c.in-Until.until c.settle-until-count.result c.settle-until-count.ensures p)
+    subst (λ (q : Step). Prepared o n a q to work s (source.Copied (At work)) c.settle_until-count.result c.settle_until-count.new.s) (sym c.in-Until.is) (until_prepared o cuts reads n a to work s c.settle_until-count.new.s c.settle_until-count.auto.s c.in-Until.until c.settle_until-count.result c.settle_until-count.ensures p)
 
 pub returns-in-Dual : goal.returns-in-Dual
 returns-in-Dual g c =
@@ -117,4 +117,4 @@ returns-in-Dual g c =
     let reads = opposite_read m opp par (g.met.L.Scale.lawful l) (g.met.L.Logic.opposed l) in
     let n = c.args.n in let a = c.args.a in let to = c.args.to in let work = c.args.work in let s = c.args.s.now in
     let p : Placed n a (Dual c.in-Dual.until) to work (length s) = subst (λ q. Placed n a q to work (length s)) c.in-Dual.is (placed n a c.args.step to work (length s) c.requires.placed) in
-    subst (λ (q : Step). Prepared o n a q to work s (source.Copied (Not work)) c.settle-until-count-in-Dual.result c.settle-until-count-in-Dual.new.s) (sym c.in-Dual.is) (dual_prepared o cuts reads n a to work s c.settle-until-count-in-Dual.new.s c.settle-until-count-in-Dual.auto.s c.in-Dual.until c.settle-until-count-in-Dual.result c.settle-until-count-in-Dual.ensures p)
+    subst (λ (q : Step). Prepared o n a q to work s (source.Copied (Not work)) c.settle_until-count-in-Dual.result c.settle_until-count-in-Dual.new.s) (sym c.in-Dual.is) (dual_prepared o cuts reads n a to work s c.settle_until-count-in-Dual.new.s c.settle_until-count-in-Dual.auto.s c.in-Dual.until c.settle_until-count-in-Dual.result c.settle_until-count-in-Dual.ensures p)

@@ -12,8 +12,8 @@ returns-in-Ok-push g c =
     let w = draft_on c.args.draft c.args.stretch.now ws in
     let v = settled_on c.in-Ok.settled c.settle.new.stretch ws in
     leads_first l w v settle (read_at c.args.line c.args.stage ∷ []) settled (rounds c.in-Ok.rounds)
-    (vec_items c.args.outputs.now) (vec_items c.push.new.self) (vec_items c.ask-settled.new.outputs) c.settle.new.stretch ws
-    c.requires.long c.requires.wide (rounds_accepted c.in-Ok.rounds) c.in-Ok.ensures.step c.in-Ok-push.ensures.items c.ask-settled.result c.ask-settled.ensures
+    (vec_items c.args.outputs.now) (vec_items c.push.new.self) (vec_items c.ask_settled.new.outputs) c.settle.new.stretch ws
+    c.requires.long c.requires.wide (rounds_accepted c.in-Ok.rounds) c.in-Ok.ensures.step c.in-Ok-push.ensures.items c.ask_settled.result c.ask_settled.ensures
 
 pub returns-in-Err : goal.returns-in-Err
 returns-in-Err g c =

@@ -16,11 +16,11 @@ returns-in-Err g c =
     let some : 0 < length ws = search rules in
     let rest = take (length ws - 1) (drop 1 ws) in
     let us = vec_items c.step.new.outputs in
-    made_so (λ stop. Halted c.in-Err.halt c.args.more c.words.at rest stop) _ c.stop-of.result
+    made_so (λ stop. Halted c.in-Err.halt c.args.more c.words.at rest stop) _ c.stop_of.result
     (λ stop h. c.words.invariant.1 stop us
     (word_halts l c.args.more c.words.phase c.words.stretch c.step.new.stretch c.words.lines c.step.new.lines c.words.at
     (get_or ws 0 0) ws rest c.of.result (vec_items c.words.outputs) us c.in-Err.halt stop (first_rest ws 0 some) c.of.ensures c.in-Err.ensures h))
-    c.stop-of.ensures
+    c.stop_of.ensures
 
 pub words-preserved : goal.words-preserved
 words-preserved g c =
@@ -42,5 +42,5 @@ returns g c =
     let ws = c.words.words.now in
     let none : length ws ≡ 0 = search rules in
     let ps = vec_items c.words.outputs in
-    c.words.invariant.1 c.word-at.result ps
-    (none_left l c.args.more (sheet_in c.words.phase c.words.stretch c.words.lines) c.words.at ps ws c.word-at.result (nil_from_length ws none) c.word-at.ensures)
+    c.words.invariant.1 c.word_at.result ps
+    (none_left l c.args.more (sheet_in c.words.phase c.words.stretch c.words.lines) c.words.at ps ws c.word_at.result (nil_from_length ws none) c.word_at.ensures)

@@ -7,22 +7,22 @@ use Rattle.plan.specs.Phases.{Plays}
 use Rattle.plan.proofs.Sized.{made_so, sized_none, sized_other, sized_refused, sized_played}
 use Rattle.plan.proofs.playing.play_sized.Goals as goal
 
-pub returns-in-default : goal.returns-in-default
-returns-in-default g c =
+pub returns-in_default : goal.returns-in_default
+returns-in_default g c =
     let logic = c.args.logic.now in
     let l = logic_of (g.L.Scale.model logic) (g.L.Logic.opposes logic) (g.L.Logic.partners logic) in
     let ws = c.args.words.now in
     let none : length ws ≡ 0 = search rules in
-    sized_none l c.args.more c.args.at ws (vec_items c.args.outputs.now) c.word-at.result (nil_from_length ws none) c.requires.fresh c.word-at.ensures
+    sized_none l c.args.more c.args.at ws (vec_items c.args.outputs.now) c.word_at.result (nil_from_length ws none) c.requires.fresh c.word_at.ensures
 
-pub returns-in-default-of : goal.returns-in-default-of
-returns-in-default-of g c =
+pub returns-in_default-of : goal.returns-in_default-of
+returns-in_default-of g c =
     let logic = c.args.logic.now in
     let l = logic_of (g.L.Scale.model logic) (g.L.Logic.opposes logic) (g.L.Logic.partners logic) in
     let ws = c.args.words.now in
     let some : 0 < length ws = search rules in
-    sized_other l c.args.more c.args.at (get_or ws 0 0) ws (take (length ws - 1) (drop 1 ws)) c.of.result (vec_items c.args.outputs.now) c.word-at-in-default-of.result
-    (first_rest ws 0 some) c.of.ensures c.in-default-of.not-Size c.requires.fresh c.word-at-in-default-of.ensures
+    sized_other l c.args.more c.args.at (get_or ws 0 0) ws (take (length ws - 1) (drop 1 ws)) c.of.result (vec_items c.args.outputs.now) c.word_at-in_default-of.result
+    (first_rest ws 0 some) c.of.ensures c.in_default-of.not-Size c.requires.fresh c.word_at-in_default-of.ensures
 
 pub returns-in-Err : goal.returns-in-Err
 returns-in-Err g c =
@@ -30,10 +30,10 @@ returns-in-Err g c =
     let l = logic_of (g.L.Scale.model logic) (g.L.Logic.opposes logic) (g.L.Logic.partners logic) in
     let ws = c.args.words.now in
     let some : 0 < length ws = search rules in
-    sized_refused l c.args.more c.args.at (get_or ws 0 0) ws (take (length ws - 1) (drop 1 ws)) c.of.result (vec_items c.args.outputs.now) c.call-at.result
+    sized_refused l c.args.more c.args.at (get_or ws 0 0) ws (take (length ws - 1) (drop 1 ws)) c.of.result (vec_items c.args.outputs.now) c.call_at.result
     (first_rest ws 0 some) c.of.ensures c.in-Size.stages c.in-Size.marks c.in-Size.is
     c.args.stretch.now c.open.new.stretch c.args.lines.now c.open.new.words c.requires.long c.requires.wide
-    c.in-Err.why c.in-Err.ensures.opens c.requires.fresh c.call-at.ensures
+    c.in-Err.why c.in-Err.ensures.opens c.requires.fresh c.call_at.ensures
 
 pub returns-in-Ok : goal.returns-in-Ok
 returns-in-Ok g c =

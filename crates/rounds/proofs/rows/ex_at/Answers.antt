@@ -1,4 +1,4 @@
-use Rattle.std.proofs.Common.{◌≡◌, ℕ, ◌+◌, ◌*◌, get_or, sym, subst, ap₂, arith}
+use Rattle.std.proofs.Common.{ℕ, ◌+◌, ◌*◌, get_or, sym, subst, ap₂, arith}
 use Rattle.std.proofs.lemmas.List.{get_or_read}
 use Rattle.ctl.specs.Operations.{ops_of, Valid}
 use Rattle.rounds.proofs.Entries.{ex_more}
@@ -13,6 +13,6 @@ loop-t-preserved g c =
     let value = get_or_read s (place + t) c.index-s-place.result (omega arith) c.index-s-place.is m.lowest in
     ex_more m (g.L.Logic.opposes l) (g.L.Logic.partners l) (g.met.L.Scale.lawful l) (g.met.L.Logic.opposed l) t
     (λ t. o.meet (get_or s (from + t) o.lowest) (get_or s (place + t) o.lowest))
-    c.loop-t.sum c.index-s-i.result c.reading-arrow.result c.index-s-place.result c.meet-values-along.result c.join-values-sum.result
+    c.loop-t.sum c.index-s-i.result c.reading-arrow.result c.index-s-place.result c.meet_values-along.result c.join_values-sum.result
     c.loop-t.invariant c.reading-arrow.ensures.is (subst (Valid o) (sym value) (c.requires.values t c.loop-t-test.true))
-    (sym (ap₂ o.meet arrow value)) c.meet-values-along.ensures c.join-values-sum.ensures
+    (sym (ap₂ o.meet arrow value)) c.meet_values-along.ensures c.join_values-sum.ensures

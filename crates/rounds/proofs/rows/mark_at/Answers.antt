@@ -4,17 +4,17 @@ use Rattle.scale.specs.Model.{read}
 use Rattle.rounds.proofs.Bounds.{marks_end}
 use Rattle.rounds.proofs.rows.mark_at.Goals as goal
 
-pub overflow-mul-i : goal.overflow-mul-i
-overflow-mul-i g c = let e = marks_end c.args.i c.args.n c.args.a c.requires.stage in omega arith
+pub overflow_mul-i : goal.overflow_mul-i
+overflow_mul-i g c = let e = marks_end c.args.i c.args.n c.args.a c.requires.stage in omega arith
 
-pub overflow-add-i : goal.overflow-add-i
-overflow-add-i g c = let e = marks_end c.args.i c.args.n c.args.a c.requires.stage in omega arith
+pub overflow_add-i : goal.overflow_add-i
+overflow_add-i g c = let e = marks_end c.args.i c.args.n c.args.a c.requires.stage in omega arith
 
-pub overflow-add-n : goal.overflow-add-n
-overflow-add-n g c = let e = marks_end c.args.i c.args.n c.args.a c.requires.stage in omega arith
+pub overflow_add-n : goal.overflow_add-n
+overflow_add-n g c = let e = marks_end c.args.i c.args.n c.args.a c.requires.stage in omega arith
 
-pub offset-bounds-s-n : goal.offset-bounds-s-n
-offset-bounds-s-n g c = let e = marks_end c.args.i c.args.n c.args.a c.requires.stage in omega arith
+pub offset_bounds-s-n : goal.offset_bounds-s-n
+offset_bounds-s-n g c = let e = marks_end c.args.i c.args.n c.args.a c.requires.stage in omega arith
 
 pub bounds-s-n : goal.bounds-s-n
 bounds-s-n g c = let e = marks_end c.args.i c.args.n c.args.a c.requires.stage in omega arith

@@ -1,7 +1,6 @@
-use Rattle.std.proofs.Common.{◌≡◌, ◌+◌, sym, ◌∙◌, subst, arith}
+use Rattle.std.proofs.Common.{◌+◌, sym, ◌∙◌, subst, arith}
 use Rattle.std.proofs.lemmas.List.{get_or_read}
 use Rattle.ctl.specs.Operations.{ops_of, Valid}
-use Rattle.steps.specs.Stretch.{row}
 use Rattle.rounds.proofs.rows.same_rows.Goals as goal
 
 pub equal-requires : goal.equal-requires

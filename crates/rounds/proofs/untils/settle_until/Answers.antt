@@ -1,4 +1,4 @@
-use Rattle.std.proofs.Common.{◌≡◌, ◌+◌, ◌≤◌, true, length, sym, ◌∙◌, subst, inr, arith}
+use Rattle.std.proofs.Common.{◌≡◌, true, length, sym, ◌∙◌, subst, inr, arith}
 use Rattle.ctl.specs.Operations.{ops_of}
 use Rattle.ctl.proofs.Cuts.{cutting}
 use Rattle.steps.specs.declared.Step.TheVariants.{Until as Untils}
@@ -7,8 +7,8 @@ use Rattle.steps.proofs.Laid.{Placed, placed}
 use Rattle.rounds.proofs.Turns.{copy_ready, so_far_none, values, old_values, new_values, soon, so_far_more, rested}
 use Rattle.rounds.proofs.untils.settle_until.Goals as goal
 
-pub write-row-requires : goal.write-row-requires
-write-row-requires g c =
+pub write_row-requires : goal.write_row-requires
+write_row-requires g c =
     let l = c.args.logic.now in let m = g.L.Scale.model l in let opp = g.L.Logic.opposes l in let par = g.L.Logic.partners l in
     let o = ops_of m opp par in let n = c.args.n in let u = c.args.until in let z = c.args.z in let turned = c.args.turned in
     let s = c.args.s.now in let p = placed n 0 (Untils u) turned z (length s) c.requires.placed in
@@ -20,50 +20,50 @@ rounds-init g c =
     let o = ops_of m opp par in let n = c.args.n in let u = c.args.until in let z = c.args.z in let turned = c.args.turned in
     let s = c.args.s.now in let p = placed n 0 (Untils u) turned z (length s) c.requires.placed in
     let cuts = cutting m opp par (g.met.L.Scale.lawful l) (g.met.L.Logic.opposed l) c.requires.small in
-    let s1 = c.write-row.new.s in let cleared = c.write-row.ensures in
+    let s1 = c.write_row.new.s in let cleared = c.write_row.ensures in
     so_far_none o cuts n u z turned (length s) p s s1 cleared
 
-pub run-round-requires : goal.run-round-requires
-run-round-requires g c =
+pub run_round-requires : goal.run_round-requires
+run_round-requires g c =
     let l = c.args.logic.now in let m = g.L.Scale.model l in let opp = g.L.Logic.opposes l in let par = g.L.Logic.partners l in
     let o = ops_of m opp par in let n = c.args.n in let u = c.args.until in let z = c.args.z in let turned = c.args.turned in
     let s = c.args.s.now in let p = placed n 0 (Untils u) turned z (length s) c.requires.placed in
     let cuts = cutting m opp par (g.met.L.Scale.lawful l) (g.met.L.Logic.opposed l) c.requires.small in
-    let s1 = c.write-row.new.s in let cleared = c.write-row.ensures in
-    let same : length c.rounds.s ≡ length s = c.rounds.auto.s ∙ c.write-row.auto.s in
+    let s1 = c.write_row.new.s in let cleared = c.write_row.ensures in
+    let same : length c.rounds.s ≡ length s = c.rounds.auto.s ∙ c.write_row.auto.s in
     record {
       placed = subst (λ k. laid n 0 (Untils u) turned z k ≡ true) (sym same) c.requires.placed;
       values = values o cuts n u z turned (length s) p s s1 cleared c.rounds.s c.rounds.count c.rounds.invariant;
     }
 
-pub overflow-add-z : goal.overflow-add-z
-overflow-add-z g c =
+pub overflow_add-z : goal.overflow_add-z
+overflow_add-z g c =
     let l = c.args.logic.now in let m = g.L.Scale.model l in let opp = g.L.Logic.opposes l in let par = g.L.Logic.partners l in
     let o = ops_of m opp par in let n = c.args.n in let u = c.args.until in let z = c.args.z in let turned = c.args.turned in
     let s = c.args.s.now in let p = placed n 0 (Untils u) turned z (length s) c.requires.placed in
     omega (arith, p.work_rows)
 
-pub same-rows-requires : goal.same-rows-requires
-same-rows-requires g c =
+pub same_rows-requires : goal.same_rows-requires
+same_rows-requires g c =
     let l = c.args.logic.now in let m = g.L.Scale.model l in let opp = g.L.Logic.opposes l in let par = g.L.Logic.partners l in
     let o = ops_of m opp par in let n = c.args.n in let u = c.args.until in let z = c.args.z in let turned = c.args.turned in
     let s = c.args.s.now in let p = placed n 0 (Untils u) turned z (length s) c.requires.placed in
     let cuts = cutting m opp par (g.met.L.Scale.lawful l) (g.met.L.Logic.opposed l) c.requires.small in
-    let s1 = c.write-row.new.s in let cleared = c.write-row.ensures in
-    let same : length c.run-round.new.s ≡ length s = c.run-round.auto.s ∙ c.rounds.auto.s ∙ c.write-row.auto.s in
+    let s1 = c.write_row.new.s in let cleared = c.write_row.ensures in
+    let same : length c.run_round.new.s ≡ length s = c.run_round.auto.s ∙ c.rounds.auto.s ∙ c.write_row.auto.s in
     record {
       inside = (omega (arith, p.work_rows, same), omega (arith, p.work_rows, same));
-      first = λ i h. old_values o cuts n u z turned (length s) p s s1 cleared c.rounds.s c.rounds.count c.rounds.invariant c.run-round.new.s c.run-round.ensures i (omega arith);
-      second = λ i h. new_values o cuts n u z turned (length s) p s s1 cleared c.rounds.s c.rounds.count c.rounds.invariant c.run-round.new.s c.run-round.ensures i (omega arith);
+      first = λ i h. old_values o cuts n u z turned (length s) p s s1 cleared c.rounds.s c.rounds.count c.rounds.invariant c.run_round.new.s c.run_round.ensures i (omega arith);
+      second = λ i h. new_values o cuts n u z turned (length s) p s s1 cleared c.rounds.s c.rounds.count c.rounds.invariant c.run_round.new.s c.run_round.ensures i (omega arith);
     }
 
-pub write-row-requires-in-rounds : goal.write-row-requires-in-rounds
-write-row-requires-in-rounds g c =
+pub write_row-requires-in-rounds : goal.write_row-requires-in-rounds
+write_row-requires-in-rounds g c =
     let l = c.args.logic.now in let m = g.L.Scale.model l in let opp = g.L.Logic.opposes l in let par = g.L.Logic.partners l in
     let o = ops_of m opp par in let n = c.args.n in let u = c.args.until in let z = c.args.z in let turned = c.args.turned in
     let s = c.args.s.now in let p = placed n 0 (Untils u) turned z (length s) c.requires.placed in
-    let same : length c.run-round.new.s ≡ length s = c.run-round.auto.s ∙ c.rounds.auto.s ∙ c.write-row.auto.s in
-    copy_ready o n u z turned c.run-round.new.s (subst (Placed n 0 (Untils u) turned z) (sym same) p) _
+    let same : length c.run_round.new.s ≡ length s = c.run_round.auto.s ∙ c.rounds.auto.s ∙ c.write_row.auto.s in
+    copy_ready o n u z turned c.run_round.new.s (subst (Placed n 0 (Untils u) turned z) (sym same) p) _
     (omega (arith, p.work_rows, same), inr (omega arith))
 
 pub rounds-smaller : goal.rounds-smaller
@@ -72,8 +72,8 @@ rounds-smaller g c =
     let o = ops_of m opp par in let n = c.args.n in let u = c.args.until in let z = c.args.z in let turned = c.args.turned in
     let s = c.args.s.now in let p = placed n 0 (Untils u) turned z (length s) c.requires.placed in
     let cuts = cutting m opp par (g.met.L.Scale.lawful l) (g.met.L.Logic.opposed l) c.requires.small in
-    let s1 = c.write-row.new.s in let cleared = c.write-row.ensures in
-    let more = soon o cuts n u z turned (length s) p s s1 cleared c.rounds.s c.rounds.count c.rounds.invariant c.run-round.new.s c.run-round.ensures c.if-same-rows.ensures in
+    let s1 = c.write_row.new.s in let cleared = c.write_row.ensures in
+    let more = soon o cuts n u z turned (length s) p s s1 cleared c.rounds.s c.rounds.count c.rounds.invariant c.run_round.new.s c.run_round.ensures c.if-same_rows.ensures in
     omega arith
 
 pub rounds-preserved : goal.rounds-preserved
@@ -82,9 +82,9 @@ rounds-preserved g c =
     let o = ops_of m opp par in let n = c.args.n in let u = c.args.until in let z = c.args.z in let turned = c.args.turned in
     let s = c.args.s.now in let p = placed n 0 (Untils u) turned z (length s) c.requires.placed in
     let cuts = cutting m opp par (g.met.L.Scale.lawful l) (g.met.L.Logic.opposed l) c.requires.small in
-    let s1 = c.write-row.new.s in let cleared = c.write-row.ensures in
-    so_far_more o cuts n u z turned (length s) p s s1 cleared c.rounds.s c.rounds.count c.rounds.invariant c.run-round.new.s c.run-round.ensures c.if-same-rows.ensures
-    c.write-row-in-rounds.new.s c.write-row-in-rounds.ensures
+    let s1 = c.write_row.new.s in let cleared = c.write_row.ensures in
+    so_far_more o cuts n u z turned (length s) p s s1 cleared c.rounds.s c.rounds.count c.rounds.invariant c.run_round.new.s c.run_round.ensures c.if-same_rows.ensures
+    c.write_row-in-rounds.new.s c.write_row-in-rounds.ensures
 
 pub returns : goal.returns
 returns g c =
@@ -92,5 +92,5 @@ returns g c =
     let o = ops_of m opp par in let n = c.args.n in let u = c.args.until in let z = c.args.z in let turned = c.args.turned in
     let s = c.args.s.now in let p = placed n 0 (Untils u) turned z (length s) c.requires.placed in
     let cuts = cutting m opp par (g.met.L.Scale.lawful l) (g.met.L.Logic.opposed l) c.requires.small in
-    let s1 = c.write-row.new.s in let cleared = c.write-row.ensures in
-    rested o cuts n u z turned (length s) p s s1 cleared c.rounds.s c.rounds.count c.rounds.invariant c.run-round.new.s c.run-round.ensures c.if-same-rows.ensures
+    let s1 = c.write_row.new.s in let cleared = c.write_row.ensures in
+    rested o cuts n u z turned (length s) p s s1 cleared c.rounds.s c.rounds.count c.rounds.invariant c.run_round.new.s c.run_round.ensures c.if-same_rows.ensures

@@ -1,4 +1,4 @@
-use Rattle.std.proofs.Common.{◌-◌, ◌≤◌}
+use Rattle.std.proofs.Common.{◌-◌}
 use Rattle.ctl.specs.Operations.{ops_of}
 use Rattle.rounds.proofs.Turns.{SoFar}
 use Rattle.rounds.proofs.untils.settle_until.Given as goal

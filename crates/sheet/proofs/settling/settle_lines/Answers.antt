@@ -15,9 +15,9 @@ loop-k-preserved g c = λ ls says.
     let size = says.all in
     let few = c.requires.few in
     let h : k < length ls = omega arith in
-    let P : ℕ → Type 0 = λ r. Filled lo c.args.stages c.args.marks ls c.args.stretch.now (k + 1) r c.settle-line-rounds.new.stretch in
-    let is : c.max-most.result ≡ max c.loop-k.most c.settle-line-rounds.result = c.max-most.ensures in
+    let P : ℕ → Type 0 = λ r. Filled lo c.args.stages c.args.marks ls c.args.stretch.now (k + 1) r c.settle_line-rounds.new.stretch in
+    let is : c.max-most.result ≡ max c.loop-k.most c.settle_line-rounds.result = c.max-most.ensures in
     subst P (sym is)
     (more_filled lo (meant m (g.L.Logic.opposes x) (g.L.Logic.partners x) (g.met.L.Scale.lawful x) (g.met.L.Logic.opposed x) c.requires.small)
-    c.args.stages c.args.marks ls says.fit (omega arith) c.args.stretch.now c.loop-k.stretch c.settle-line-rounds.new.stretch k c.loop-k.most c.settle-line-rounds.result h
-    (c.loop-k.invariant ls says) (c.settle-line-rounds.ensures (get_or ls k False) (says.words k (omega arith)) (says.fit k h)))
+    c.args.stages c.args.marks ls says.fit (omega arith) c.args.stretch.now c.loop-k.stretch c.settle_line-rounds.new.stretch k c.loop-k.most c.settle_line-rounds.result h
+    (c.loop-k.invariant ls says) (c.settle_line-rounds.ensures (get_or ls k False) (says.words k (omega arith)) (says.fit k h)))

@@ -12,8 +12,8 @@ bounds-stretch-from g c =
     let d = c.args.self.now in
     arrow_lies (g.L.Scale.model c.args.logic.now) d.stages d.marks (length c.args.stretch.now) (length c.args.words.now) (held d.lines) (Unit {0}) c.args.from c.args.to c.args.number [] c.in-Ok.ensures.0
 
-pub offset-bounds-stretch-from : goal.offset-bounds-stretch-from
-offset-bounds-stretch-from g c =
+pub offset_bounds-stretch-from : goal.offset_bounds-stretch-from
+offset_bounds-stretch-from g c =
     let d = c.args.self.now in
     let h : arrow_place d.stages c.args.from c.args.to < length c.args.stretch.now = arrow_lies (g.L.Scale.model c.args.logic.now) d.stages d.marks (length c.args.stretch.now) (length c.args.words.now) (held d.lines) (Unit {0}) c.args.from c.args.to c.args.number [] c.in-Ok.ensures.0 in
     search rules

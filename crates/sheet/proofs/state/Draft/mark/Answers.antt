@@ -12,8 +12,8 @@ bounds-stretch-n g c =
     let d = c.args.self.now in
     mark_lies (g.L.Scale.model c.args.logic.now) d.stages d.marks (length c.args.stretch.now) (length c.args.words.now) (held d.lines) (Unit {0}) c.args.stage c.args.mark c.args.number [] c.in-Ok.ensures.0
 
-pub offset-bounds-stretch-n : goal.offset-bounds-stretch-n
-offset-bounds-stretch-n g c =
+pub offset_bounds-stretch-n : goal.offset_bounds-stretch-n
+offset_bounds-stretch-n g c =
     let d = c.args.self.now in
     let h : mark_place d.stages d.marks c.args.stage c.args.mark < length c.args.stretch.now = mark_lies (g.L.Scale.model c.args.logic.now) d.stages d.marks (length c.args.stretch.now) (length c.args.words.now) (held d.lines) (Unit {0}) c.args.stage c.args.mark c.args.number [] c.in-Ok.ensures.0 in
     search rules

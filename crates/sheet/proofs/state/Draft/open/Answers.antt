@@ -17,7 +17,7 @@ returns g c =
     let s = c.args.stretch.now in
     record {
       opens = (
-        c.in-default.ensures,
+        c.in_default.ensures,
         ap (λ k. record { phase = drafting; stages = c.args.stages; marks = c.args.marks; lines = 0; stretch = k; words = c.fill-2.new.row }) (c.fill.ensures ∙ ap (replicate (length s)) c.lowest.ensures)
             ∙ ap (λ k. record { phase = drafting; stages = c.args.stages; marks = c.args.marks; lines = 0; stretch = replicate (length s) (g.L.Scale.model x).lowest; words = k }) c.fill-2.ensures,
       );

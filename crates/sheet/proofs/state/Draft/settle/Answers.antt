@@ -25,17 +25,17 @@ returns g c =
     let l = logic_of m (g.L.Logic.opposes x) (g.L.Logic.partners x) in
     let d = c.args.self in
     let s = c.args.stretch.now in
-    let t = c.settle-lines-rounds.new.stretch in
+    let t = c.settle_lines-rounds.new.stretch in
     let ws = c.args.words.now in
     let w = draft_on d s ws in
     let u = settled_on (record { stages = d.stages; marks = d.marks; lines = d.lines }) t ws in
-    let r = c.settle-lines-rounds.result in
-    let judged = c.in-default.ensures in
+    let r = c.settle_lines-rounds.result in
+    let judged = c.in_default.ensures in
     let said = (passed (passed (passed (passed judged).1).1).1).0 in
-    let is = c.held-lines-count.ensures in
+    let is = c.held_lines-count.ensures in
     let P : ℕ → Type 0 = λ k. Says d.marks k ws said.0 in
     let Q : ℕ → Type 0 = λ k. Filled l d.stages d.marks said.0 s k r t in
-    let filled : Filled l d.stages d.marks said.0 s (held d.lines) r t = subst Q is (c.settle-lines-rounds.ensures said.0 (subst P (sym is) said.1)) in
+    let filled : Filled l d.stages d.marks said.0 s (held d.lines) r t = subst Q is (c.settle_lines-rounds.ensures said.0 (subst P (sym is) said.1)) in
     let st =
     does l w settle [] (rounds r) u tt judged
     (record {
@@ -46,7 +46,7 @@ returns g c =
       same_marks = refl;
       same_lines = refl;
       same_words = refl;
-      same_length = c.settle-lines-rounds.auto.stretch;
+      same_length = c.settle_lines-rounds.auto.stretch;
       said = said.0;
       says = said.1;
       counts = all_counted l d.stages d.marks said.0 s (held d.lines) r t (sym said.1.all) filled;

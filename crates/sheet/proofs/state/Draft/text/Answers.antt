@@ -26,7 +26,7 @@ returns-in-Ok g c =
     let w = draft_on d c.args.stretch.now c.args.words.now in
     let call = text c.args.names.now c.args.formula.now in
     let u = draft_on (record { stages = d.stages; marks = d.marks; lines = c.in-Ok.lines }) c.args.stretch.now c.append.new.words in
-    let st : Step l w call done u = text_done l d c.args.stretch.now c.args.words.now c.args.names.now c.args.formula.now c.in-default.ensures c.in-Ok.lines c.append.new.words c.in-Ok.ensures.outcome in
+    let st : Step l w call done u = text_done l d c.args.stretch.now c.args.words.now c.args.names.now c.args.formula.now c.in_default.ensures c.in-Ok.lines c.append.new.words c.in-Ok.ensures.outcome in
     record { step = st; law = told m (g.L.Logic.opposes x) (g.L.Logic.partners x) (g.met.L.Scale.lawful x) (g.met.L.Logic.opposed x) w call done u st }
 
 pub returns-in-Err : goal.returns-in-Err
@@ -41,5 +41,5 @@ returns-in-Err g c =
     let P : Refusal → Type 0 = λ r. Step l w call (refused r) u in
     let st : Step l w call (refused c.text_refusal.result) u =
     subst P (sym c.text_refusal.ensures)
-    (text_refused l d c.args.stretch.now c.args.words.now c.args.names.now c.args.formula.now c.in-default.ensures c.in-Err.why c.append.new.words c.in-Err.ensures.outcome) in
+    (text_refused l d c.args.stretch.now c.args.words.now c.args.names.now c.args.formula.now c.in_default.ensures c.in-Err.why c.append.new.words c.in-Err.ensures.outcome) in
     record { step = st; law = told m (g.L.Logic.opposes x) (g.L.Logic.partners x) (g.met.L.Scale.lawful x) (g.met.L.Logic.opposed x) w call (refused c.text_refusal.result) u st }

@@ -12,12 +12,12 @@ use Rattle.sheet.proofs.state.Settled.read.Goals as goal
 pub bounds-stretch-row : goal.bounds-stretch-row
 bounds-stretch-row g c =
     let d = c.args.self.now in
-    answer_lies (g.L.Scale.model c.args.logic.now) d.stages d.marks (length c.args.stretch.now) (length c.args.words.now) (held d.lines) (Unit {0}) c.args.line c.args.stage [] (omega arith) c.in-default.ensures
+    answer_lies (g.L.Scale.model c.args.logic.now) d.stages d.marks (length c.args.stretch.now) (length c.args.words.now) (held d.lines) (Unit {0}) c.args.line c.args.stage [] (omega arith) c.in_default.ensures
 
-pub offset-bounds-stretch-row : goal.offset-bounds-stretch-row
-offset-bounds-stretch-row g c =
+pub offset_bounds-stretch-row : goal.offset_bounds-stretch-row
+offset_bounds-stretch-row g c =
     let d = c.args.self.now in
-    let h : answer_row d.stages d.marks c.args.line + c.args.stage < length c.args.stretch.now = answer_lies (g.L.Scale.model c.args.logic.now) d.stages d.marks (length c.args.stretch.now) (length c.args.words.now) (held d.lines) (Unit {0}) c.args.line c.args.stage [] (omega arith) c.in-default.ensures in
+    let h : answer_row d.stages d.marks c.args.line + c.args.stage < length c.args.stretch.now = answer_lies (g.L.Scale.model c.args.logic.now) d.stages d.marks (length c.args.stretch.now) (length c.args.words.now) (held d.lines) (Unit {0}) c.args.line c.args.stage [] (omega arith) c.in_default.ensures in
     search rules
 
 pub returns-in-Some : goal.returns-in-Some
@@ -40,7 +40,7 @@ returns g c =
     let w = settled_on d s c.args.words.now in
     let call = read_at c.args.line c.args.stage in
     let p = answer_row d.stages d.marks c.args.line + c.args.stage in
-    let h : p < length s = answer_lies m d.stages d.marks (length s) (length c.args.words.now) (held d.lines) (Unit {0}) c.args.line c.args.stage [] (omega arith) c.in-default.ensures in
+    let h : p < length s = answer_lies m d.stages d.marks (length s) (length c.args.words.now) (held d.lines) (Unit {0}) c.args.line c.args.stage [] (omega arith) c.in_default.ensures in
     let there = get_or_read s p c.index-stretch-row.result h c.index-stretch-row.is m.lowest in
-    let st = does l w call [] (value c.reading.result) w tt c.in-default.ensures (ap value (c.reading.ensures.is ∙ ap (read m) there), refl) in
+    let st = does l w call [] (value c.reading.result) w tt c.in_default.ensures (ap value (c.reading.ensures.is ∙ ap (read m) there), refl) in
     record { step = st; law = told m (g.L.Logic.opposes x) (g.L.Logic.partners x) (g.met.L.Scale.lawful x) (g.met.L.Logic.opposed x) w call (value c.reading.result) w st }
