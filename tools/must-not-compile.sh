@@ -1,22 +1,19 @@
 #!/bin/sh
 # Each edit crates/NAME/must-not-compile/*.edit, applied to the program NAME, has to be refused because a moved value is used
-# again; the program as it stands has to be accepted in the same way. Only the sources are read: nothing is proved here, and
+# again; the program as it stands has to run in the same way. `rt try` reads the sources alone: nothing is proved here, and
 # nothing need be proved or built before. Prints a line for each edit, and ends with 1 if one compiles or is refused for
 # another reason.
 set -u
 root=$(cd "$(dirname "$0")/.." && pwd)
-kit=$(dirname "$(dirname "$(rt doc)")")
 copy=$(mktemp -d) || exit 2
 trap 'rm -rf "$copy"' EXIT
-cp -r "$root/crates" "$copy/"
+cp "$root/crates.txt" "$copy/"
+(cd "$root" && tar -cf - --exclude=out crates) | tar -xf - -C "$copy"
 
-# Compiles the program NAME of the copy with all that it depends on, from the sources, up to the borrow checker.
-# Prints the errors alone.
+# Compiles the program NAME of the copy with all that it depends on, from the sources, and runs it before any proof.
+# Prints what is said of the sources, not what the program prints.
 compiled() { # NAME
-    deps=$(sed -n "s/^$1:\(.*\)/\1/p" "$root/crates.txt")
-    set -- "$copy/crates/$1/src/main.rt" --crate-name "$1" --extern "std=$kit/rlib/std.rlib" -L "dependency=$kit/rlib"
-    for dep in $deps; do set -- "$@" --lib "$dep=$copy/crates/$dep/src/lib.rt"; done
-    "$kit/bin/rattle-print-mir" "$@" 2>&1 >/dev/null
+    (cd "$copy/crates/$1" && rt try </dev/null 2>&1 >/dev/null)
 }
 
 # Prints FILE with the one place of the edit's old text replaced by the new text.

@@ -101,7 +101,7 @@ fn ask_settled<L: Logic>(
     requires wide { length lines.now ≡ 64 }
     ensures { Leads (logic_of (L.Scale.model logic.now) (L.Logic.opposes logic.now) (L.Logic.partners logic.now)) (settled_on settled stretch.now lines.now) (read_at line stage ∷ []) in-settled outputs.old.items result stretch.now lines.now outputs.new.items }
 {
-    let number = match read_number(&settled, logic, stretch, lines, line, 0) {
+    let number = match read_number(&settled, logic, stretch, lines, line, stage) {
         Ok(number) => number,
         Err(why) => return Err(Halt::Sheet(why)),
     };
