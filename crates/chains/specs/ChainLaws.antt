@@ -1,9 +1,8 @@
 -- The chain of n values, 2 to 64, is a scale and a logic.
-use Rattle.std.specs.Prelude.{◌≡◌, ℕ, ◌+◌, ◌-◌, ◌<◌, ◌≤◌, min, max, Bool, true, false, ltb, leb, ◌⊎◌, refl}
+use Rattle.std.specs.Prelude.{ℕ, ◌+◌, ◌-◌, ◌<◌, ◌≤◌, min, max, refl}
 use Rattle.std.proofs.Common.{inl, inr, arith}
 use Rattle.std.proofs.lemmas.Bool.Decides.{nat_tests}
-use Rattle.std.proofs.lemmas.Bool.{ltb-true, leb-true, leb-false, le-leb, lt-ltb, lt-leb, le-ltb, cases_lt}
-use Rattle.scale.specs.Model.{Model}
+use Rattle.std.proofs.lemmas.Bool.{ltb-true, leb-true, le-leb, lt-ltb, lt-leb, cases_lt}
 use Rattle.scale.specs.Laws.{Lawful, Counted, Opposed}
 use Rattle.chains.specs.Chains.{chain, chain_opposite, chain_partner}
 

@@ -1,13 +1,12 @@
 -- The sets of k members, 1 to 12, are a scale and a logic: everything is said bit by bit.
-use Rattle.std.specs.Prelude.{◌≡◌, ℕ, zero, suc, ◌+◌, ◌-◌, ◌*◌, ◌/◌, ◌%◌, ◌^◌, ◌<◌, ◌≤◌, min, max, Bool, true, false, not, ◌&&◌, ◌||◌, ◌⊎◌, ◌==◌, nat_eq, refl}
-use Rattle.std.proofs.Common.{sym, ap, ◌∙◌, subst, inl, inr, mul_comm, pow-suc, div-one, mod-lt, arith, pow_pos, pow_mono}
+use Rattle.std.specs.Prelude.{◌≡◌, ℕ, zero, suc, ◌-◌, ◌/◌, ◌%◌, ◌^◌, ◌<◌, ◌≤◌, min, max, Bool, true, false, not, ◌&&◌, ◌||◌, ◌==◌, nat_eq, refl}
+use Rattle.std.proofs.Common.{sym, ap, ◌∙◌, subst, inl, inr, mul_comm, pow-suc, div-one, arith, pow_pos, pow_mono}
 use Rattle.std.proofs.Math.Nat.{div-div-eq-div-mul}
 use Rattle.std.specs.Int.Bits.{bit_and, bit_or, and_step, or_step, and_lt, and_zero_l, and_zero_r, and_self}
 use Rattle.std.proofs.lemmas.Nat.{and_shr, or_shr, or_lt, and_comm}
 use Rattle.std.proofs.Math.Pow.{pow-lt}
 use Rattle.std.proofs.lemmas.Bool.Decides.{nat_tests}
-use Rattle.std.proofs.lemmas.Bool.{and_parts, and_from, or_cases, or_right, cases_Bool, cases_eq, both_ways, eqb-true, eqb-false, eq-eqb, ne_eqb, ltb-true, lt-ltb, not-true}
-use Rattle.scale.specs.Model.{Model}
+use Rattle.std.proofs.lemmas.Bool.{and_parts, and_from, or_cases, or_right, cases_Bool, both_ways, eqb-true, eq-eqb, ne_eqb, ltb-true, lt-ltb, not-true}
 use Rattle.scale.specs.Laws.{Lawful, Counted, Opposed}
 use Rattle.scale.proofs.Bools.{same_test, and_so, and_over_or}
 use Rattle.chains.specs.Sets.{sets, sets_opposite, sets_partner}

@@ -1,10 +1,10 @@
 -- Numbers of a pair: what its code needs of them.
-use Rattle.std.proofs.Common.{◌≡◌, ℕ, ◌+◌, ◌-◌, ◌*◌, ◌/◌, ◌%◌, ◌<◌, ◌≤◌, Bool, true, false, cond, ◌&&◌, ltb, leb, ◌⊎◌, Some, None, Option, sym, refl, ap, ◌∙◌, subst, inl, inr, mul-le-mul_right, mod-lt, div-lt_iff_lt-mul, mul-le-mul_left, arith}
-use lib.Arith.{digits_lt}
+use Rattle.std.proofs.Common.{◌≡◌, ℕ, ◌+◌, ◌-◌, ◌*◌, ◌/◌, ◌%◌, ◌<◌, ◌≤◌, Bool, true, false, cond, ◌&&◌, ltb, leb, Some, None, Option, sym, refl, ap, ◌∙◌, mul-le-mul_right, mod-lt, div-lt_iff_lt-mul, mul-le-mul_left, arith}
+use Rattle.std.proofs.Math.Arith.{digits_lt}
 use Rattle.std.proofs.lemmas.Bool.{leb-true, le-leb, lt-ltb, cond-true}
 use Rattle.scale.specs.Model.{Model, named, number_of, only_if}
-use Rattle.scale.specs.Laws.{Lawful, Counted}
-use Rattle.compounds.specs.Pairs.{pair_at, pair_model}
+use Rattle.scale.specs.Laws.{Lawful}
+use Rattle.compounds.specs.Pairs.{pair_model}
 
 few_product : (m n s : ℕ) (t : Bool) → (t ≡ true → m * n ≤ 4096) → s ≡ cond t (m * n) 4097 → s ≤ 4096 → (s ≡ m * n) × (m * n ≤ 4096)
 few_product m n s true h e k = (e, h refl)

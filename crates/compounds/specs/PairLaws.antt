@@ -1,8 +1,8 @@
 -- The pair of two scales is a scale, and of two logics a logic.
-use Rattle.std.specs.Prelude.{◌≡◌, ℕ, ◌+◌, ◌-◌, ◌*◌, ◌/◌, ◌%◌, ◌<◌, ◌≤◌, Bool, true, false, cond, not, ◌&&◌, ◌||◌, ◌⊎◌, ◌≢◌, nat_le, nat_lt, refl}
+use Rattle.std.specs.Prelude.{◌≡◌, ℕ, ◌+◌, ◌-◌, ◌*◌, ◌/◌, ◌%◌, ◌<◌, ◌≤◌, Bool, true, false, not, ◌&&◌, ◌||◌, ◌≢◌, nat_le, nat_lt, refl}
 use Rattle.std.proofs.Common.{sym, ap, ◌∙◌, subst, inl, inr, arith, mul-le-mul_left, mul-le-mul_right, div-lt_iff_lt-mul, mod-lt, div-add-mod'}
 use Rattle.std.proofs.Math.Arith.{digits_lt, digits_div, digits_mod}
-use Rattle.std.proofs.lemmas.Bool.{leb-true, leb-false, lt-ltb, le-ltb, cases_lt, and_parts, and_from, and_left, and_right, cond-true, cond-false, both_ways}
+use Rattle.std.proofs.lemmas.Bool.{leb-true, lt-ltb, le-ltb, cases_lt, and_parts, and_from, and_left, cond-true, cond-false, both_ways}
 use Rattle.scale.specs.Model.{Model, Is, Le}
 use Rattle.scale.specs.Laws.{Lawful, Counted, Opposed}
 use Rattle.scale.proofs.Bools.{and_true, true_and}

@@ -1,13 +1,13 @@
 -- The twist over a scale is a scale and a logic: it is the pair of the scale and its dual, under other names.
-use Rattle.std.specs.Prelude.{◌≡◌, ℕ, ◌+◌, ◌-◌, ◌*◌, ◌/◌, ◌%◌, ◌<◌, ◌≤◌, Bool, true, false, cond, not, ◌&&◌, ◌||◌, ◌⊎◌, nat_le, nat_lt, refl}
-use Rattle.std.proofs.Common.{sym, ap, ◌∙◌, subst, inl, inr, arith}
-use Rattle.std.proofs.lemmas.Bool.{leb-true, lt-ltb, le-ltb, cases_lt, cond-true, cond-false, and_parts, and_from}
+use Rattle.std.specs.Prelude.{◌≡◌, ℕ, ◌+◌, ◌-◌, ◌*◌, ◌<◌, ◌≤◌, Bool, true, false, cond, not, ◌||◌, nat_le, nat_lt, refl}
+use Rattle.std.proofs.Common.{sym, ap, ◌∙◌, arith}
+use Rattle.std.proofs.lemmas.Bool.{leb-true, lt-ltb, le-ltb, cond-true, cond-false, and_parts}
 use Rattle.scale.specs.Model.{Model, Is}
 use Rattle.scale.specs.Laws.{Lawful, Counted, Opposed}
 use Rattle.scale.proofs.Bools.{not_not, and_comm}
 use Rattle.compounds.specs.Pairs.{pair, pair_at}
 use Rattle.compounds.specs.Twists.{twist, twist_at, twist_model, twist_opposite, twist_partner}
-use Rattle.compounds.specs.PairLaws.{pair_at_lawful, first_tells, second_tells, each, first_few, second_few}
+use Rattle.compounds.specs.PairLaws.{pair_at_lawful, first_tells, second_tells, each, first_few}
 use Rattle.compounds.specs.DualLaws.{dual, dual_lawful}
 use Rattle.compounds.specs.declared.pair.PairValue.{PairValue}
 use Rattle.compounds.specs.declared.twist.TwistValue.{TwistValue}

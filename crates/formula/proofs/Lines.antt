@@ -1,9 +1,8 @@
 -- The lines of a tree, written one behind the other, and the text that a reading takes. Assumes nothing.
-use Rattle.std.proofs.Common.{◌≡◌, ℕ, suc, ◌+◌, ◌-◌, ◌<◌, ◌≤◌, List, [], ◌∷◌, ◌++◌, length, set, sym, refl, ap, ◌∙◌, subst, add-zero, add-suc, suc-add, arith, length-append}
+use Rattle.std.proofs.Common.{◌≡◌, ℕ, suc, ◌+◌, ◌-◌, ◌<◌, ◌≤◌, List, [], ◌∷◌, ◌++◌, length, set, sym, refl, ap, ◌∙◌, add-zero, add-suc, suc-add, arith, length-append}
 use lib.Seq.{sets}
 use Rattle.lines.specs.declared.Unary.{Unary}
 use Rattle.lines.specs.declared.Binary.{Binary}
-use Rattle.lines.specs.declared.Line.{Line}
 use Rattle.lines.specs.declared.Line.TheVariants.{One, Two}
 use Rattle.lines.specs.Word.{word_of}
 use Rattle.tokens.proofs.Fronts.{shorter}

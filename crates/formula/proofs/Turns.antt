@@ -12,9 +12,9 @@ use Rattle.tokens.specs.declared.Token.{Token}
 use Rattle.tokens.specs.declared.Token.TheVariants.{Name, Prefix, Quantifier, Between, True, False, And, Or, Implies, Open, Close, Left, Right, End, Stray}
 use Rattle.tokens.specs.Shown.{tok_of}
 use Rattle.tokens.specs.Tokens.{Tok, t_name, t_prefix, t_paths, t_link, tTrue, tFalse, tAnd, tOr, tImplies, tOpen, tClose, tLeft, tRight, tEnd, tStray, Stands, Seen}
-use Rattle.tokens.proofs.Fronts.{Solid, stands_of, seen_same, shorter, Long}
+use Rattle.tokens.proofs.Fronts.{Solid, stands_of, seen_same}
 use Rattle.formula.specs.Grammar.{Tree, one, two, Level, unit}
-use Rattle.formula.specs.Read.{Lacks, Read, Unread}
+use Rattle.formula.specs.Read.{Lacks, Unread}
 use Rattle.formula.specs.Tells.{Tells}
 use Rattle.formula.specs.Words.{size, postfix}
 use Rattle.formula.proofs.Steps.{Begins, u_none, Joined, Sofar, j_first, j_more, j_done}

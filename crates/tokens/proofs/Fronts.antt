@@ -1,12 +1,11 @@
 -- The front of a text, byte by byte, and the one token that stands there. Assumes nothing.
-use Rattle.std.proofs.Common.{◌≡◌, ℕ, zero, suc, ◌+◌, ◌-◌, ◌<◌, ◌≤◌, Bool, true, false, cond, eqb, leb, ◌⊎◌, List, [], ◌∷◌, ◌++◌, length, get_or, take, drop, replicate, sym, refl, ap, ◌∙◌, subst, inl, inr, add-one, one-add, arith, length-append, length-drop, take-append-drop, drop_of_length-le, drop-cons, drop-drop, eq-eqb, ne_eqb, le-leb}
+use Rattle.std.proofs.Common.{◌≡◌, ℕ, zero, suc, ◌+◌, ◌-◌, ◌<◌, ◌≤◌, Bool, true, false, cond, eqb, leb, ◌⊎◌, List, [], ◌∷◌, ◌++◌, length, get_or, take, drop, replicate, sym, refl, ap, ◌∙◌, subst, inl, inr, add-one, one-add, arith, length-append, take-append-drop, drop_of_length-le, drop-cons, drop-drop, eq-eqb, ne_eqb, le-leb}
 use borrow.Author.Tests.{lt-leb, both_ways}
 use Rattle.std.proofs.lemmas.Bool.Decides.{nat_tests}
 use Rattle.lines.specs.declared.Unary.{Unary}
 use Rattle.lines.specs.declared.Unary.TheVariants.{Not, Ex, Ax, Ef, Af, Eg, Ag}
 use Rattle.tokens.specs.declared.Paths.{Paths}
 use Rattle.tokens.specs.declared.Paths.TheVariants.{Exists, All}
-use Rattle.tokens.specs.declared.Link.{Link}
 use Rattle.tokens.specs.declared.Link.TheVariants.{Until, Release}
 use Rattle.tokens.specs.Bytes.{small, in_name, AllInName, Name, Ended, run, skip}
 use Rattle.tokens.specs.Tokens.{Tok, t_name, t_prefix, t_paths, t_link, tTrue, tFalse, tAnd, tOr, tImplies, tOpen, tClose, tLeft, tRight, tEnd, tStray}

@@ -1,8 +1,8 @@
 -- The parts of a list of names, one at a time. Assumes nothing.
-use Rattle.std.proofs.Common.{◌≡◌, ℕ, suc, ◌+◌, ◌-◌, ◌<◌, ◌≤◌, Bool, true, false, cond, eqb, List, [], ◌∷◌, ◌++◌, length, get_or, take, drop, Decides, sym, refl, ap, ◌∙◌, subst, inl, inr, append-nil, add-zero, add_assoc, add-one, one-add, arith, length-drop, drop_of_length-le, get_or-drop, take_all, drop-cons, drop-drop, eq-eqb, ne_eqb}
+use Rattle.std.proofs.Common.{◌≡◌, ℕ, suc, ◌+◌, ◌-◌, ◌<◌, ◌≤◌, Bool, true, false, cond, eqb, List, [], ◌∷◌, length, get_or, take, drop, Decides, sym, refl, ap, ◌∙◌, subst, inl, inr, append-nil, add-one, one-add, arith, length-drop, drop_of_length-le, take_all, drop-cons, drop-drop, eq-eqb, ne_eqb}
 use borrow.Author.Tests.{clash}
 use Rattle.std.proofs.lemmas.Bool.{cases_order, and_parts, leb-true}
-use Rattle.tokens.specs.Bytes.{small, AllInName, Name, run, Ended}
+use Rattle.tokens.specs.Bytes.{AllInName, Name, run}
 use Rattle.tokens.specs.Names.{up_to, push, parts, names_of, Proper, Listed}
 use Rattle.tokens.proofs.Fronts.{from, run_all, run_name, is_small}
 

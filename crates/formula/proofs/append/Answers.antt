@@ -21,11 +21,11 @@ returns-then-total-room c = let h = c.in-Ok.ensures in record {
   single = one_tree;
 }
 
-pub returns-in-err-formula : goal.returns-in-err-formula
-returns-in-err-formula c = let h = c.in-Ok.ensures in absurd (none c.in-err-formula.ensures h.1.short h.0 h.1.spelled)
+pub returns-in_err-formula : goal.returns-in_err-formula
+returns-in_err-formula c = let h = c.in-Ok.ensures in absurd (none c.in_err-formula.ensures h.1.short h.0 h.1.spelled)
 
 pub returns : goal.returns
-returns c = let h = c.in-Ok.ensures in let g = c.in-ok-formula.ensures in let same = its_tree g.1 h.1.spelled in record {
+returns c = let h = c.in-Ok.ensures in let g = c.in_ok-formula.ensures in let same = its_tree g.1 h.1.spelled in record {
   outcome = accepted c.args.count c.min-held.result c.min-room.result c.args.words.now (c.proper.ensures.0 c.if-not-proper.false) c.min-held.ensures c.min-room.ensures
       h.1 h.2 c.if-total-room.false same (g.3 (omega (arith, g.2, h.2, c.if-total-room.false, c.min-room.ensures, ap size same)));
   single = one_tree;

@@ -5,11 +5,11 @@ use Rattle.formula.proofs.Turns.{not_at}
 use Rattle.formula.proofs.Whole.{taken, none, beyond}
 use Rattle.formula.proofs.count_lines.Goals as goal
 
-pub returns-in-default : goal.returns-in-default
-returns-in-default c = (refl, none c.in-default.ensures)
+pub returns-in_default : goal.returns-in_default
+returns-in_default c = (refl, none c.in_default.ensures)
 
 pub returns-in-End : goal.returns-in-End
 returns-in-End c = let h = c.in-Ok.ensures in (h.0, taken (omega arith) h.1 (stands_of tt c.in-End.ensures.1), h.2)
 
-pub returns-in-default-peek : goal.returns-in-default-peek
-returns-in-default-peek c = (refl, beyond c.in-Ok.ensures.1 (not_at _ tEnd c.peek.ensures.1 c.in-default-peek.not-End))
+pub returns-in_default-peek : goal.returns-in_default-peek
+returns-in_default-peek c = (refl, beyond c.in-Ok.ensures.1 (not_at _ tEnd c.peek.ensures.1 c.in_default-peek.not-End))

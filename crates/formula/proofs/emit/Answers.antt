@@ -1,4 +1,4 @@
-use Rattle.std.proofs.Common.{◌≡◌, set, sym, refl, ap, ◌∙◌}
+use Rattle.std.proofs.Common.{set, sym, refl, ap, ◌∙◌}
 use lib.Seq.{set_out}
 use Rattle.formula.proofs.emit.Goals as goal
 use Rattle.formula.proofs.emit.Goals.{then-count-out, else-count-out}

@@ -21,6 +21,6 @@ returns-in-G c =
     pair_of (letter_of c.args.paths) 71 c.args.text.now c.args.at (t_prefix c.globally.result) tt tt
     (ap prefix_bytes c.globally.ensures ∙ globally_bytes c.args.paths) c.if-at-text.false c.in-G.is
 
-pub returns-in-default : goal.returns-in-default
-returns-in-default c =
+pub returns-in_default : goal.returns-in_default
+returns-in_default c =
     quant_off c.args.paths c.args.text.now c.args.at c.if-at-text.false (λ e. omega arith) (λ e. omega arith) (λ e. omega arith)

@@ -12,7 +12,7 @@ returns c =
     let w = c.args.words.now in
     let n = length w in
     let p : 1 * 2 ^ n % 4294967296 ≡ 2 ^ n = one_shl n 32 (omega arith) in
-    c.all-laid-out.ensures
+    c.all_laid_out.ensures
     ∙ ap (λ x. every n (λ k. laid_out x (get_or w k 0))) p
     ∙ sym (true_and (leb 2 n && leb n 16) (every n (λ k. laid_out (2 ^ n) (get_or w k 0))) (and_from (leb 2 n) (leb n 16) (le-leb 2 n c.if-count-lt-LEAST.false) (le-leb n 16 c.if-count-gt-MOST.false)))
 

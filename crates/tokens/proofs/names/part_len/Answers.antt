@@ -1,4 +1,4 @@
-use Rattle.std.proofs.Common.{◌+◌, drop, sym, ap, ◌∙◌, add_assoc, arith}
+use Rattle.std.proofs.Common.{◌+◌, drop, ap, add_assoc, arith}
 use Rattle.tokens.specs.Names.{up_to}
 use Rattle.tokens.proofs.Lists.{up_more, up_stop, up_end}
 use Rattle.tokens.proofs.names.part_len.Goals as goal

@@ -2,8 +2,8 @@ use Rattle.std.proofs.Common.{◌≡◌, ◌*◌, ◌%◌, ◌^◌, ◌<◌, ari
 use Rattle.std.proofs.lemmas.Nat.{one_shl, pow_below}
 use Rattle.chains.proofs.sets.SetsScale.ceiling.Goals as goal
 
-pub overflow-sub-result : goal.overflow-sub-result
-overflow-sub-result c =
+pub overflow_sub-result : goal.overflow_sub-result
+overflow_sub-result c =
     let j = c.args.j in
     let k = c.args.self.now.k in
     let e : (1 * 2 ^ j) % 65536 ≡ 2 ^ j = one_shl j 16 (omega (arith, c.args.self.now.most)) in

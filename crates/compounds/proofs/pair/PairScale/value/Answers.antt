@@ -1,20 +1,20 @@
 use Rattle.compounds.proofs.PairNumbers.{first_there, second_there}
 use Rattle.compounds.proofs.pair.PairScale.value.Goals as goal
 
-pub returns-in-err-first : goal.returns-in-err-first
-returns-in-err-first g c =
+pub returns-in_err-first : goal.returns-in_err-first
+returns-in_err-first g c =
     let s = c.args.self.now in
     absurd
     (first_there
     (g.A.Scale.model s.first) (g.B.Scale.model s.second)
     (g.met.A.Scale.lawful s.first) (g.met.B.Scale.lawful s.second)
-    c.args.n _ c.size-size.ensures c.if-n-size.false c.if-size-gt4096.false _ _ _ c.size-width.ensures c.value.ensures c.in-err-first.was)
+    c.args.n _ c.size-size.ensures c.if-n-size.false c.if-size-gt4096.false _ _ _ c.size-width.ensures c.value.ensures c.in_err-first.was)
 
-pub returns-in-err-second : goal.returns-in-err-second
-returns-in-err-second g c =
+pub returns-in_err-second : goal.returns-in_err-second
+returns-in_err-second g c =
     let s = c.args.self.now in
     absurd
     (second_there
     (g.A.Scale.model s.first) (g.B.Scale.model s.second)
     (g.met.A.Scale.lawful s.first) (g.met.B.Scale.lawful s.second)
-    c.args.n _ c.size-size.ensures c.if-n-size.false c.if-size-gt4096.false _ _ _ c.size-width.ensures c.value-2.ensures c.in-err-second.was)
+    c.args.n _ c.size-size.ensures c.if-n-size.false c.if-size-gt4096.false _ _ _ c.size-width.ensures c.value-2.ensures c.in_err-second.was)

@@ -12,7 +12,7 @@ returns-then-c-lowest c =
     let n = o.count in
     let le = under o.rows in
     let x = c.args.c % 16 in
-    c.holds-on-pairs.ensures (omega arith)
+    c.holds_on_pairs.ensures (omega arith)
     ∙ sym (true_and (not (eqb x (lowest_of n le))) (every n (λ a. every n (λ b. irreducible_at n le x a b))) (ap not (ne_eqb x (lowest_of n le) (λ e. c.if-c-lowest.true (e ∙ sym c.lowest.ensures)))))
 
 pub returns-else-c-lowest : goal.returns-else-c-lowest

@@ -8,8 +8,8 @@ use Rattle.orders.specs.Orders.{member, under, implies}
 use Rattle.orders.proofs.Bits.{all_in}
 use Rattle.orders.proofs.order.Order.is_greatest.Goals as goal
 
-pub returns-then-is-member : goal.returns-then-is-member
-returns-then-is-member c h =
+pub returns-then-is_member : goal.returns-then-is_member
+returns-then-is_member c h =
     let o = c.args.self.now in
     let n = o.count in
     let a = c.args.values in
@@ -19,12 +19,12 @@ returns-then-is-member c h =
     ap (λ x. eqb (bit_and (bit_and a (x - 1)) (get_or o.rows (w % 16) 0)) (bit_and a (x - 1))) p
     ∙ ap (λ x. eqb (bit_and (bit_and a (2 ^ n - 1)) (get_or o.rows x 0)) (bit_and a (2 ^ n - 1))) e
     ∙ all_in n a (get_or o.rows w 0)
-    ∙ sym (true_and (member a w) (every n (λ x. implies (member a x) (under o.rows x w))) (ap (member a) (sym e) ∙ sym c.is-member.ensures ∙ c.if-is-member.true))
+    ∙ sym (true_and (member a w) (every n (λ x. implies (member a x) (under o.rows x w))) (ap (member a) (sym e) ∙ sym c.is_member.ensures ∙ c.if-is_member.true))
 
-pub returns-else-is-member : goal.returns-else-is-member
-returns-else-is-member c h =
+pub returns-else-is_member : goal.returns-else-is_member
+returns-else-is_member c h =
     let o = c.args.self.now in
     let a = c.args.values in
     let e : c.args.w % 16 ≡ c.args.w = omega arith in
-    c.if-is-member.false
-    ∙ sym (and_left (member a c.args.w) (every o.count (λ x. implies (member a x) (under o.rows x c.args.w))) (ap (member a) (sym e) ∙ sym c.is-member.ensures ∙ c.if-is-member.false))
+    c.if-is_member.false
+    ∙ sym (and_left (member a c.args.w) (every o.count (λ x. implies (member a x) (under o.rows x c.args.w))) (ap (member a) (sym e) ∙ sym c.is_member.ensures ∙ c.if-is_member.false))

@@ -5,7 +5,7 @@ use Rattle.orders.specs.Finite.{how_many, nth, Filled}
 use Rattle.orders.specs.Orders.{under, irreducible, cut_count_of, cut_of}
 use Rattle.orders.proofs.Finites.{how_many_yes, how_many_no, nth_here, nth_on, nth_skip, pick_less}
 use Rattle.table.proofs.cuts.Cuts.of.Goals as goal
-use Rattle.table.proofs.cuts.Cuts.of.Goals.{then-is-irreducible, else-is-irreducible}
+use Rattle.table.proofs.cuts.Cuts.of.Goals.{then-is_irreducible, else-is_irreducible}
 
 -- v is written at the number of those before it
 next : (P : ℕ → Bool) (xs : List ℕ) (v c : ℕ) → P v ≡ true → c ≡ how_many v P → c < length xs → Filled (nth v P) 16 xs → Filled (nth (v + 1) P) 16 (set xs c v)
@@ -25,40 +25,38 @@ loop-v-preserved c =
     let xs = c.loop-v.values in
     let inv = c.loop-v.invariant in
     let small : v % 16 ≡ v = omega (arith, o.most) in
-    let is = c.is-irreducible.ensures ∙ ap P small in
-    elim c.if-is-irreducible.branch [
-      | then-is-irreducible w ↦
-          let e : P v ≡ true = sym is ∙ w.if-is-irreducible.true in (
-            rw add-one (omega (arith, w.count_is, how_many_yes P v e)),
-            omega (arith, w.count_is),
+    let is = c.is_irreducible.ensures ∙ ap P small in
+    elim c.if-is_irreducible.branch [
+      | then-is_irreducible w ↦
+          let e : P v ≡ true = sym is ∙ w.if-is_irreducible.true in (
+            rw add-one (omega (arith, w.count-is, how_many_yes P v e)),
+            omega (arith, w.count-is),
             ap length w.values-is ∙ length-set xs n v ∙ inv.2,
             λ k l. ap (λ ys. get_or ys k 0) w.values-is ∙ next P xs v n e inv.0 (omega (arith, o.most)) inv.3 k l,
           )
-      | else-is-irreducible w ↦
-          let e : P v ≡ false = sym is ∙ w.if-is-irreducible.false in (
-            rw add-one (omega (arith, w.count_is, how_many_no P v e)),
-            omega (arith, w.count_is),
+      | else-is_irreducible w ↦
+          let e : P v ≡ false = sym is ∙ w.if-is_irreducible.false in (
+            rw add-one (omega (arith, w.count-is, how_many_no P v e)),
+            omega (arith, w.count-is),
             ap length w.values-is ∙ inv.2,
             λ k l. ap (λ ys. get_or ys k 0) w.values-is ∙ inv.3 k l ∙ rw add-one (sym (nth_skip P v k e)),
           )
     ]
 
-pub invariant-of-result : goal.invariant-of-result
-invariant-of-result c =
+pub invariant_of-result : goal.invariant_of-result
+invariant_of-result c =
     let o = c.args.candidate.now.order in
     let P = irreducible o.count (under o.rows) in
     let v = c.loop-v.v in
-    let xs = c.loop-v.values in (
-      omega (arith, o.most),
-      (
-        (λ k.
-            elim (cases_lt k 16) [
-              | inl h ↦ omega (arith, c.loop-v.invariant.3 k h, pick_less (λ v. P v && eqb k (how_many v P)) v (omega (arith, o.least)), o.most)
-              | inr h ↦ omega (arith, get_or_past xs k 0 (omega arith))
-            ]),
-        tt,
-      ),
-    )
+    let xs = c.loop-v.values in
+    record {
+      few = omega (arith, o.most);
+      small = λ k.
+          elim (cases_lt k 16) [
+            | inl h ↦ omega (arith, c.loop-v.invariant.3 k h, pick_less (λ v. P v && eqb k (how_many v P)) v (omega (arith, o.least)), o.most)
+            | inr h ↦ omega (arith, get_or_past xs k 0 (omega arith))
+          ];
+    }
 
 pub returns : goal.returns
 unfolding cut_count_of cut_of
