@@ -1,5 +1,5 @@
 -- The cuts of the table Six are the values 1, 2, 3 and 5, and 1 is the partner of 5 and 2 of 3.
-use Rattle.std.proofs.Common.{◌≡◌, ℕ, zero, suc, ◌+◌, ◌<◌, Bool, true, false, cond, ◌&&◌, eqb, ltb, List, [], ◌∷◌, get_or, Some, refl, ap, ◌∙◌, ap₂, arith}
+use Rattle.std.proofs.Common.{◌≡◌, ℕ, zero, suc, ◌+◌, ◌<◌, Bool, true, false, cond, ◌&&◌, eqb, ltb, [], ◌∷◌, get_or, Some, refl, ap, ◌∙◌, ap₂, arith}
 use Rattle.scale.specs.Model.{only_if}
 use Rattle.scale.specs.Numbers.{cut_number}
 use Rattle.orders.specs.Finite.{every, pick, how_many, nth}

@@ -1,8 +1,8 @@
 -- A fact about a formula, from what is computed over lists.
-use Rattle.std.proofs.Common.{◌≡◌, ℕ, ◌<◌, length, sym, refl, ◌∙◌}
+use Rattle.std.proofs.Common.{◌≡◌, ℕ, ◌<◌, length, sym, ◌∙◌}
 use Rattle.ctl.specs.Operations.{Ops}
 use Rattle.ctl.specs.Formulas.{Plan, Formula, F, T, mark, not, EX, AX, and, or, until}
-use Rattle.ctl.specs.Values.{Row, Value, Takes}
+use Rattle.ctl.specs.Values.{Row, Takes}
 use Rattle.ctl.specs.Theorems.{Meaning}
 use Rattle.ctl.specs.Computed.{at, value, counted}
 use Rattle.cases.specs.Logics.{Entry, model, ops}

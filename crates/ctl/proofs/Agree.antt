@@ -1,10 +1,10 @@
 -- A cut is at or below the value of a formula exactly when the formula's reading holds; so each formula has one value.
-use Rattle.std.proofs.Common.{◌≡◌, ℕ, zero, suc, ◌<◌, ◌≤◌, Bool, true, ◌⊎◌, ◌↔◌, sym, refl, ◌∙◌, subst, inl, inr, ⊎_elim}
+use Rattle.std.proofs.Common.{ℕ, zero, suc, ◌<◌, Bool, ◌↔◌, sym, refl, subst, inl, inr, ⊎_elim}
 use Rattle.ctl.specs.declared.Paths.{Paths}
 use Rattle.ctl.specs.declared.Paths.TheVariants.{One, All}
 use Rattle.ctl.specs.Operations.{Ops, Valid, Carries}
 use Rattle.ctl.specs.Formulas.{Plan, Formula, F, T, mark, not, EX, AX, and, or, until}
-use Rattle.ctl.specs.Values.{Row, Same, Least, Value, after, joined, ex, ax, round}
+use Rattle.ctl.specs.Values.{Row, Same, Least, Value, after, ex, ax, round}
 use Rattle.ctl.specs.Readings.{Run, In, Closed, Holds}
 use Rattle.ctl.specs.Theorems.{ReadingAgrees, ValueExists, ValueOnce}
 use Rattle.ctl.proofs.Cuts.{Cutting, joined_valid}

@@ -1,5 +1,5 @@
 -- Rows that agree have the same rounds, and are the value of the same formulas.
-use Rattle.std.proofs.Common.{◌≡◌, ℕ, zero, suc, ◌<◌, sym, refl, ◌∙◌, subst, ap₂}
+use Rattle.std.proofs.Common.{ℕ, zero, suc, sym, refl, ◌∙◌, subst, ap₂}
 use Rattle.ctl.specs.declared.Paths.{Paths}
 use Rattle.ctl.specs.Operations.{Ops, Below}
 use Rattle.ctl.specs.Formulas.{Plan, Formula, F, T, mark, not, EX, AX, and, or, until}

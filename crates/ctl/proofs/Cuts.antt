@@ -1,8 +1,8 @@
 -- What a cut carries of each operation, for every pattern.
-use Rattle.std.proofs.Common.{◌≡◌, ℕ, zero, suc, ◌<◌, Bool, true, false, not, ◌||◌, ◌⊎◌, ◌↔◌, sym, refl, ap, ◌∙◌, subst, ap₂, inl, inr, ⊎_elim}
+use Rattle.std.proofs.Common.{◌≡◌, ℕ, zero, suc, ◌<◌, not, ◌||◌, ◌⊎◌, ◌↔◌, sym, ap, ◌∙◌, ap₂, inl, inr, ⊎_elim}
 use mathlib.Core.Bool.{false≢true}
 use Rattle.std.proofs.lemmas.Bool.{or_cases, or_left, or_right, cases_Bool, not_from_false, not-true}
-use Rattle.scale.specs.Model.{Model, Is, Le, read}
+use Rattle.scale.specs.Model.{Model, Is, read}
 use Rattle.scale.specs.Laws.{Lawful, Opposed}
 use Rattle.scale.proofs.Readings.{read_is, read_same}
 use Rattle.ctl.specs.Operations.{Ops, ops_of, Small, Valid, as_read, Below, Carries}

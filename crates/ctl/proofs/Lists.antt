@@ -1,8 +1,8 @@
 -- What is computed over lists is the value, and what is counted there are the rounds that change something.
-use Rattle.std.proofs.Common.{◌≡◌, ℕ, zero, suc, ◌+◌, ◌<◌, ◌≤◌, Bool, true, false, ◌&&◌, ◌⊎◌, List, [], ◌∷◌, length, sym, refl, ap, ◌∙◌, subst, ap₂, ⊎_elim, arith}
+use Rattle.std.proofs.Common.{◌≡◌, ℕ, zero, suc, ◌+◌, ◌<◌, Bool, true, false, List, [], ◌∷◌, length, sym, refl, ap, ◌∙◌, subst, ap₂, ⊎_elim, arith}
 use mathlib.Core.Bool.{false≢true}
 use Rattle.std.proofs.lemmas.Bool.{and_parts, and_from, cases_order}
-use Rattle.ctl.specs.Operations.{Ops, Valid, Below, as_read}
+use Rattle.ctl.specs.Operations.{Ops, Below, as_read}
 use Rattle.ctl.specs.Formulas.{Plan, Formula, F, T, mark, not, EX, AX, and, or, until}
 use Rattle.ctl.specs.Values.{Row, Same, Least, Value, after, Rounds, Takes, ex, ax, round}
 use Rattle.ctl.specs.Computed.{at, listed, rounds, value, alike, changes, counted}

@@ -3,7 +3,7 @@ use Rattle.std.proofs.Common.{◌≡◌, ℕ, zero, suc, ◌+◌, ◌<◌, ◌�
 use mathlib.Core.Bool.{false≢true}
 use Rattle.std.proofs.lemmas.Bool.{cases_lt, cases_order}
 use Rattle.ctl.specs.declared.Paths.{Paths}
-use Rattle.ctl.specs.Operations.{Ops, Valid, Below, Carries}
+use Rattle.ctl.specs.Operations.{Ops, Valid, Carries}
 use Rattle.ctl.specs.Formulas.{Plan}
 use Rattle.ctl.specs.Values.{Row, Same, Least, after, Rounds, round}
 use Rattle.ctl.specs.Theorems.{Settles, UntilsSettle}

@@ -1,5 +1,5 @@
 -- The laws of a scale and of a logic, each for all values. Every implementation owes them; code over any logic rests on them alone.
-use Rattle.std.specs.Prelude.{◌≡◌, ℕ, ◌<◌, ◌≤◌, Bool, true, false, not, ◌||◌}
+use Rattle.std.specs.Prelude.{◌≡◌, ℕ, ◌<◌, ◌≤◌, false, not, ◌||◌}
 use Rattle.scale.specs.Model.{Model, Is, Le, most_values, too_many}
 
 module _ {V : Type 0} (m : Model V) where

@@ -1,25 +1,23 @@
 -- A sheet with its memory stands for an account, and goes on to as calls are made.
-use Rattle.std.proofs.Common.{◌≡◌, ℕ, ◌+◌, ◌-◌, ◌*◌, ◌<◌, ◌≤◌, Bool, true, false, cond, ◌&&◌, eqb, ◌≢◌, ◌⊎◌, List, [], ◌∷◌, ◌++◌, map, length, get_or, take, drop, set, sym, refl, ap, ◌∙◌, subst, inl, inr, ⊎_elim, arith}
-use lib.Seq.{sets, length-sets}
+use Rattle.std.proofs.Common.{◌≡◌, ℕ, ◌+◌, ◌-◌, ◌<◌, ◌≤◌, Bool, true, false, cond, ◌&&◌, eqb, ◌≢◌, ◌⊎◌, List, [], ◌∷◌, ◌++◌, map, length, get_or, take, drop, set, sym, refl, ap, ◌∙◌, subst, inl, inr, ⊎_elim, arith}
+use lib.Seq.{sets}
 use Rattle.std.proofs.lemmas.Bool.{cases_lt, eq-eqb, eqb-true, and_parts, and_from, both_ways, cond-true}
-use Rattle.std.proofs.lemmas.List.{length-append, length-map, get_or-map, get_or-take, get_or_past, get_or_append_left, get_or-append_right, get_or-set_same, get_or-set_other, length-set, length-take-le, take-append-drop}
-use Rattle.scale.specs.Model.{Model, read, most_values}
+use Rattle.std.proofs.lemmas.List.{length-append, length-map, get_or-map, get_or-take, get_or_past, get_or_append_left, get_or-append_right, get_or-set_same, get_or-set_other, length-take-le, take-append-drop}
+use Rattle.scale.specs.Model.{Model, read}
 use Rattle.lines.specs.declared.Line.{Line}
 use Rattle.lines.specs.declared.Line.TheVariants.{False}
 use Rattle.lines.specs.Word.{word_of, FitsAt}
 use Rattle.formula.specs.Grammar.{Tree}
-use Rattle.formula.specs.Words.{size}
-use Rattle.ctl.specs.Operations.{Ops, Valid}
-use Rattle.ctl.specs.Formulas.{Plan}
+use Rattle.ctl.specs.Operations.{Valid}
 use Rattle.ctl.specs.Values.{Row, Value}
 use Rattle.sheet.specs.declared.state.Refusal.{Refusal}
 use Rattle.sheet.specs.declared.state.Refusal.TheVariants.{Line as Bad-line}
-use Rattle.sheet.specs.Layout.{room, arrow_place, mark_place, answer_row, work_rows}
+use Rattle.sheet.specs.Layout.{room, arrow_place, mark_place, answer_row}
 use Rattle.sheet.specs.Lines.{formula, tree_lines, Fitting, Says, GreatestCount}
-use Rattle.sheet.specs.Sheet.{LogicOf, ops, Phase, drafting, settled, Sheet, Call, arrow, mark, line, text, settle, read_at, reopen, Reply, done, rounds, value, refused, Permits, Verdict, refuse, accept, needs, accepts, lent, Judged, plan_in, answers_in, Settles, Does, wipes, left, Ends, Step}
-use Rattle.sheet.specs.Account.{Event, Account, plan, Judges, entered, taken, onward}
+use Rattle.sheet.specs.Sheet.{LogicOf, ops, Phase, drafting, settled, Sheet, Call, arrow, mark, line, text, settle, read_at, reopen, Reply, done, rounds, value, refused, Permits, Verdict, refuse, accept, needs, accepts, lent, Judged, plan_in, answers_in, Settles, wipes, left, Ends}
+use Rattle.sheet.specs.Account.{Event, Account, plan, Judges, taken, onward}
 use Rattle.sheet.specs.Runs.{lent_to, back, Moves}
-use Rattle.sheet.proofs.Alike.{Agreeing, with_entries, value_alike, value_same}
+use Rattle.sheet.proofs.Alike.{Agreeing, value_alike, value_same}
 use Rattle.sheet.proofs.Formulas.{says_once, formula_bounded, count_alike}
 use Rattle.sheet.proofs.Memory.{set_front, sets_front, sets_off, sets_at, cleared_same, back_before}
 use Rattle.sheet.proofs.Places.{arrow_within, mark_within, entries_first, answer_within, entries_within, entry_elsewhere, arrow_row, arrow_column, mark_rest}

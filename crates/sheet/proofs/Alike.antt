@@ -1,10 +1,10 @@
 -- Plans that agree on the entries of their stages and marks give the same values and counts.
-use Rattle.std.proofs.Common.{◌≡◌, ℕ, zero, suc, ◌+◌, ◌<◌, ◌≤◌, ◌⊎◌, List, [], ◌∷◌, ◌++◌, length, get_or, sym, refl, ap, ◌∙◌, subst, inl, inr, ⊎_elim, arith}
+use Rattle.std.proofs.Common.{◌≡◌, ℕ, zero, suc, ◌<◌, sym, refl, ap, ◌∙◌, subst, arith}
 use Rattle.ctl.specs.declared.Paths.{Paths}
 use Rattle.ctl.specs.declared.Paths.TheVariants.{One, All}
 use Rattle.ctl.specs.Operations.{Ops, Below, as_read}
 use Rattle.ctl.specs.Formulas.{Plan, Formula, F, T, mark, not, EX, AX, and, or, until}
-use Rattle.ctl.specs.Values.{Row, Same, joined, ex, ax, next, round, Least, Value, after, Rounds, Takes}
+use Rattle.ctl.specs.Values.{Row, Same, joined, ex, ax, next, round, Value, after, Rounds, Takes}
 
 -- the marks of a formula are below a
 abbrev pub Bounded : ℕ → Formula → Type 0

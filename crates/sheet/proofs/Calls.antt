@@ -1,5 +1,5 @@
 -- A call that is judged and does what its verdict says is a step, and the law holds of its answer.
-use Rattle.std.proofs.Common.{◌≡◌, ℕ, List, [], length, refl}
+use Rattle.std.proofs.Common.{ℕ, List, length, refl}
 use Rattle.scale.specs.Model.{Model}
 use Rattle.scale.specs.Laws.{Lawful, Opposed}
 use Rattle.ctl.proofs.Meant.{meant}

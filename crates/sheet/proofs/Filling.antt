@@ -1,26 +1,25 @@
 -- One answer row more.
-use Rattle.std.proofs.Common.{◌≡◌, ℕ, zero, suc, ◌+◌, ◌-◌, ◌*◌, ◌/◌, ◌<◌, ◌≤◌, max, Bool, true, false, ◌&&◌, ltb, leb, ◌⊎◌, List, [], ◌∷◌, ◌++◌, length, get_or, sym, refl, ap, ◌∙◌, subst, inl, inr, ⊎_elim, mul_comm, mul-add, arith}
+use Rattle.std.proofs.Common.{◌≡◌, ℕ, zero, suc, ◌+◌, ◌-◌, ◌*◌, ◌/◌, ◌<◌, ◌≤◌, max, true, ◌&&◌, leb, List, [], ◌∷◌, ◌++◌, length, get_or, sym, refl, ap, ◌∙◌, subst, inl, inr, ⊎_elim, mul_comm, arith}
 use Rattle.std.proofs.lemmas.Bool.{cases_lt, cases_eq, and_from, le-leb, lt-ltb}
-use Rattle.std.proofs.lemmas.List.{length-append, get_or_append_left, get_or-append_right, get_or_push}
+use Rattle.std.proofs.lemmas.List.{length-append, get_or_append_left, get_or_push}
 use Rattle.std.proofs.lemmas.Nat.{div-mul-add}
-use Rattle.scale.specs.Model.{Model}
 use Rattle.lines.specs.declared.Line.{Line}
 use Rattle.lines.specs.declared.Line.TheVariants.{False, True, Mark, One, Two}
 use Rattle.lines.specs.declared.Unary.{Unary}
 use Rattle.lines.specs.declared.Unary.TheVariants.{Not, Ex, Ax, Ef, Af, Eg, Ag}
 use Rattle.lines.specs.declared.Binary.{Binary}
 use Rattle.lines.specs.declared.Binary.TheVariants.{And, Or, Implies, Eu, Au, Er, Ar}
-use Rattle.lines.specs.Word.{word_of, FitsAt}
+use Rattle.lines.specs.Word.{FitsAt}
 use Rattle.ctl.specs.Operations.{Ops, Valid}
 use Rattle.ctl.specs.Formulas.{Plan, Formula, F, T, mark, not, EX, AX, and, or, until as untils}
-use Rattle.ctl.specs.Values.{Row, Same, Value, Takes, Rounds}
+use Rattle.ctl.specs.Values.{Value, Takes}
 use Rattle.ctl.specs.Theorems.{Meaning}
-use Rattle.steps.specs.Stretch.{row, plan_of}
+use Rattle.steps.specs.Stretch.{row}
 use Rattle.steps.specs.Steps.{formula_of, Valued, StepTakes, step_by, ends_by, laid}
 use Rattle.rounds.specs.Settled as rounds
 use Rattle.sheet.specs.Layout.{room, answer_row, work_rows}
-use Rattle.sheet.specs.Lines.{line_formula, one_formula, two_formula, formulas, formula, one_until, two_until, line_until, until_in, Fitting, Says}
-use Rattle.sheet.specs.Sheet.{LogicOf, ops, plan_in, answers_in, Elsewhere}
+use Rattle.sheet.specs.Lines.{line_formula, one_formula, two_formula, formulas, formula, one_until, two_until, line_until, until_in, Fitting}
+use Rattle.sheet.specs.Sheet.{LogicOf, ops, plan_in, answers_in}
 use Rattle.sheet.specs.Filling.{one_step, two_step, step_of, Filled}
 use Rattle.sheet.proofs.Alike.{Agreeing, turned, with_entries, value_alike, value_same, takes_alike}
 use Rattle.sheet.proofs.Formulas.{formula_bounded, until_bounded}

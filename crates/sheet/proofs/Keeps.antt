@@ -1,6 +1,5 @@
 -- The law for all runs: by the account that a sheet stands for.
-use Rattle.std.proofs.Common.{◌≡◌, ℕ, ◌+◌, ◌*◌, ◌<◌, ◌≤◌, ◌⊎◌, ◌↔◌, List, [], ◌∷◌, ◌++◌, length, get_or, replicate, Ok, Err, Result, sym, refl, ap, ◌∙◌, subst, inl, inr, ⊎_elim, arith}
-use Rattle.std.proofs.lemmas.List.{length-replicate}
+use Rattle.std.proofs.Common.{◌≡◌, ℕ, ◌<◌, ◌≤◌, ◌↔◌, List, [], ◌∷◌, length, replicate, Ok, Err, Result, sym, refl, ap, ◌∙◌, subst, arith}
 use Rattle.scale.specs.Model.{Model, most_values}
 use Rattle.ctl.specs.Operations.{Small, Carries}
 use Rattle.ctl.specs.Readings.{Holds}
@@ -10,13 +9,13 @@ use Rattle.sheet.specs.declared.state.Draft.{Draft}
 use Rattle.sheet.specs.declared.state.Refusal.{Refusal}
 use Rattle.sheet.specs.Layout.{arrow_place, mark_place}
 use Rattle.sheet.specs.Lines.{formula, Fitting}
-use Rattle.sheet.specs.Sheet.{LogicOf, ops, drafting, Sheet, Call, arrow, mark, line, text, settle, read_at, reopen, Reply, done, rounds, value, refused, Verdict, refuse, accept, lent, Judged, OpensAs, wipes, Does, Ends, Step, draft_on, Opened, Opens}
-use Rattle.sheet.specs.Account.{Event, Account, plan, opening, Judges, taken, onward}
-use Rattle.sheet.specs.Runs.{lent_to, back, Moves, Past, Run, still, more, SaysSo, Told, AllTold, none_told, one_told, Struck, nothing, keeps, strikes, events, NoTrace, LawfulRun, Begins, open_verdict, Law, Accounts, so_far, and_then, Tells}
+use Rattle.sheet.specs.Sheet.{LogicOf, ops, drafting, Sheet, Call, arrow, mark, line, text, settle, read_at, reopen, Reply, rounds, value, refused, Verdict, refuse, accept, Judged, OpensAs, wipes, Does, Ends, Step, draft_on, Opened, Opens}
+use Rattle.sheet.specs.Account.{Event, Account, plan, opening, Judges, onward}
+use Rattle.sheet.specs.Runs.{lent_to, back, Moves, Past, Run, still, more, SaysSo, Told, AllTold, none_told, one_told, Struck, nothing, keeps, strikes, events, Begins, open_verdict, Law, Accounts, so_far, and_then, Tells}
 use Rattle.sheet.proofs.Formulas.{count_few, count_once}
 use Rattle.sheet.proofs.Memory.{always}
 use Rattle.sheet.proofs.Verdicts.{judged_once}
-use Rattle.sheet.proofs.Agree.{on, Agrees, Stands, Accepted, Replies, passed, apart, goes, left_back}
+use Rattle.sheet.proofs.Agree.{on, Stands, Accepted, Replies, passed, apart, goes, left_back}
 
 no_way : {A : Type 0} → ◌≡◌ {A = ℕ} 0 1 → A
 no_way e = absurd (omega arith)

@@ -1,11 +1,11 @@
 -- The checks of the memory lent come before those of a call.
-use Rattle.std.proofs.Common.{◌≡◌, ℕ, ◌+◌, ◌<◌, ◌≤◌, Bool, true, false, cond, ltb, leb, ◌⊎◌, List, [], Some, None, Option, sym, refl, ap, ◌∙◌, inl, inr, arith}
+use Rattle.std.proofs.Common.{◌≡◌, ℕ, ◌+◌, ◌<◌, ◌≤◌, Bool, true, false, ltb, leb, List, [], Some, None, Option, sym, refl, ◌∙◌, inl, inr, arith}
 use Rattle.std.proofs.lemmas.Bool.{cond-true, le-leb, ltb-true, ltb-false}
 use Rattle.scale.specs.Model.{Model, named, only_if, value_at}
 use Rattle.lines.specs.declared.Line.{Line}
 use Rattle.sheet.specs.declared.state.Refusal.{Refusal}
 use Rattle.sheet.specs.Layout.{arrow_place, mark_place, answer_row}
-use Rattle.sheet.specs.Sheet.{arrow, mark, read_at, Verdict, refuse, accept, needs, accepts, lent, Judged}
+use Rattle.sheet.specs.Sheet.{arrow, mark, read_at, Verdict, refuse, accept, accepts, lent, Judged}
 use Rattle.sheet.proofs.Agree.{passed}
 use Rattle.sheet.proofs.Places.{arrow_within, mark_within, entries_first, entries_within, answer_within}
 

@@ -1,8 +1,8 @@
 -- Lists in two parts, of which a call is lent the first, and writes into it.
-use Rattle.std.proofs.Common.{◌≡◌, ℕ, zero, suc, ◌+◌, ◌-◌, ◌<◌, ◌≤◌, ◌≢◌, ◌⊎◌, List, [], ◌∷◌, ◌++◌, length, get_or, take, drop, set, replicate, sym, refl, ap, ◌∙◌, subst, inl, inr, ⊎_elim, arith, drop-set-lt}
-use lib.Seq.{sets, length-sets}
-use Rattle.std.proofs.lemmas.Bool.{cases_lt, cases_eq}
-use Rattle.std.proofs.lemmas.List.{get_or_append_left, get_or-append_right, get_or-take, get_or-drop, get_or_past, get_or-set_same, get_or-set_other, length-set, length-take-le, length-drop, length-replicate, get_or-replicate, take-append-drop, ext_get_or}
+use Rattle.std.proofs.Common.{◌≡◌, ℕ, zero, suc, ◌+◌, ◌-◌, ◌<◌, ◌≤◌, ◌≢◌, ◌⊎◌, List, [], ◌∷◌, ◌++◌, length, get_or, take, drop, set, replicate, sym, refl, ap, ◌∙◌, inl, inr, ⊎_elim, arith, drop-set-lt}
+use lib.Seq.{sets}
+use Rattle.std.proofs.lemmas.Bool.{cases_lt}
+use Rattle.std.proofs.lemmas.List.{get_or_append_left, get_or-drop, get_or_past, get_or-set_same, get_or-set_other, length-set, length-drop, length-replicate, get_or-replicate, take-append-drop, ext_get_or}
 use Rattle.formula.specs.Tells.{cleared}
 
 set_take : {A : Type 0} (k p : ℕ) (s : List A) (v : A) → set (take k s) p v ≡ take k (set s p v)

@@ -1,12 +1,11 @@
 -- What the reader of texts answers is what a sheet's text does.
-use Rattle.std.proofs.Common.{◌≡◌, ℕ, ◌+◌, ◌<◌, ◌≤◌, false, List, [], map, length, Ok, Err, sym, refl, ap, ◌∙◌, inl, inr, arith}
+use Rattle.std.proofs.Common.{◌≡◌, ℕ, ◌+◌, ◌≤◌, false, List, [], length, Err, sym, refl, ap, ◌∙◌, inl, inr, arith}
 use lib.Seq.{sets}
 use Rattle.scale.specs.Model.{Model}
 use Rattle.lines.specs.declared.Refusal as lined
 use Rattle.lines.specs.declared.Refusal.TheVariants as reading
-use Rattle.lines.specs.Word.{word_of}
-use Rattle.formula.specs.Words.{size, postfix}
-use Rattle.formula.specs.Tells.{held, remaining, cleared, Accepts, Outcome}
+use Rattle.formula.specs.Words.{size}
+use Rattle.formula.specs.Tells.{held, Accepts, Outcome}
 use Rattle.sheet.specs.declared.state.Draft.{Draft}
 use Rattle.sheet.specs.declared.state.Refusal.{Refusal}
 use Rattle.sheet.specs.declared.state.Refusal.TheVariants.{Stretch, Words, Full, Logic, Names, Text}

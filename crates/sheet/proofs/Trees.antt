@@ -1,5 +1,5 @@
 -- The lines of a tree: as many as its nodes, their words those of the formula's reader, and each fitting.
-use Rattle.std.proofs.Common.{◌≡◌, ℕ, ◌+◌, ◌-◌, ◌<◌, ◌≤◌, ◌⊎◌, List, [], ◌∷◌, ◌++◌, map, length, get_or, sym, refl, ap, ◌∙◌, subst, inl, inr, ⊎_elim, add_assoc, arith}
+use Rattle.std.proofs.Common.{◌≡◌, ℕ, ◌+◌, ◌-◌, ◌<◌, ◌≤◌, List, [], ◌∷◌, ◌++◌, map, length, get_or, sym, refl, ap, ◌∙◌, subst, ⊎_elim, arith}
 use Rattle.std.proofs.lemmas.Bool.{cases_lt}
 use Rattle.std.proofs.lemmas.List.{length-append, get_or_append_left, get_or-append_right, map-append}
 use Rattle.lines.specs.declared.Line.{Line}
@@ -10,7 +10,7 @@ use Rattle.lines.specs.Word.{word_of, FitsAt}
 use Rattle.tokens.specs.Names.{names_of}
 use Rattle.formula.specs.Grammar.{Tree, truth, falsity, mark, one, two, Level, Reads, is_true, is_false, is_name, is_one, is_path, is_group, con_one, con_more, alt_one, alt_more, is_alt, implies, Spells}
 use Rattle.formula.specs.Words.{size, line_of, postfix}
-use Rattle.sheet.specs.Lines.{tree_lines, Fitting}
+use Rattle.sheet.specs.Lines.{tree_lines}
 
 pub size_lines : (n : ℕ) (t : Tree) → length (tree_lines n t) ≡ size t
 size_lines n truth = refl

@@ -1,16 +1,13 @@
 -- The checks give one verdict.
-use Rattle.std.proofs.Common.{◌≡◌, ℕ, ◌+◌, ◌<◌, ◌≤◌, ◌⊎◌, List, [], ◌∷◌, sym, refl, ap, ◌∙◌, subst, inl, inr, ⊎_elim}
+use Rattle.std.proofs.Common.{◌≡◌, ℕ, ◌+◌, ◌≤◌, List, [], ◌∷◌, sym, ap, ◌∙◌, subst, inl, inr}
 use Rattle.scale.specs.Model.{Model}
 use Rattle.lines.specs.declared.Line.{Line}
-use Rattle.lines.specs.Word.{WellFormed}
 use Rattle.formula.specs.Grammar.{Tree}
 use Rattle.formula.specs.Words.{size}
-use Rattle.formula.specs.Tells.{Taken}
 use Rattle.sheet.specs.declared.state.Refusal.{Refusal}
 use Rattle.sheet.specs.declared.state.Refusal.TheVariants.{Full}
-use Rattle.sheet.specs.Layout.{room}
 use Rattle.sheet.specs.Lines.{tree_lines}
-use Rattle.sheet.specs.Sheet.{Call, arrow, mark, line, text, settle, read_at, reopen, Verdict, refuse, accept, needs, accepts, lent, Judged}
+use Rattle.sheet.specs.Sheet.{Call, arrow, mark, line, text, settle, read_at, reopen, Verdict, accept, needs, accepts, lent, Judged}
 use Rattle.sheet.proofs.LineOnce.{line_once}
 
 -- a check gives one verdict if the checks after it do

@@ -1,10 +1,10 @@
 -- The account of a sequence of calls: what their arguments say, and of the memory only the lengths lent.
-use Rattle.std.specs.Prelude.{◌≡◌, ℕ, Bool, true, false, cond, ◌&&◌, List, [], ◌∷◌, ◌++◌, length, ◌==◌}
+use Rattle.std.specs.Prelude.{ℕ, cond, ◌&&◌, List, [], ◌++◌, length, ◌==◌}
 use Rattle.scale.specs.Model.{Model}
 use Rattle.lines.specs.declared.Line.{Line}
 use Rattle.ctl.specs.Formulas.{Plan}
 use Rattle.sheet.specs.Lines.{Fitting}
-use Rattle.sheet.specs.Sheet.{Call, arrow, mark, line, text, settle, read_at, reopen, Verdict, refuse, accept, OpensAs, Judged}
+use Rattle.sheet.specs.Sheet.{Call, arrow, mark, line, text, settle, read_at, reopen, Verdict, refuse, accept, Judged}
 
 -- A call, and how much of the memory it is lent.
 pub record Event : Type 0 where

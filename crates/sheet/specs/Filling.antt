@@ -9,8 +9,7 @@ use Rattle.lines.specs.declared.Binary.TheVariants.{And, Or, Implies, Eu, Au, Er
 use Rattle.lines.specs.Word.{word_of, FitsAt}
 use Rattle.ctl.specs.declared.Paths.{Paths}
 use Rattle.ctl.specs.declared.Paths.TheVariants as paths
-use Rattle.ctl.specs.Operations.{Ops, Valid}
-use Rattle.ctl.specs.Formulas.{Plan}
+use Rattle.ctl.specs.Operations.{Valid}
 use Rattle.ctl.specs.Values.{Value, Takes}
 use Rattle.steps.specs.declared.Side.{Side}
 use Rattle.steps.specs.declared.Side.TheVariants as side

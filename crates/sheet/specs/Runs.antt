@@ -6,7 +6,7 @@ use Rattle.ctl.specs.Values.{Row, Value}
 use Rattle.sheet.specs.declared.state.Draft.{Draft}
 use Rattle.sheet.specs.declared.state.Refusal.{Refusal}
 use Rattle.sheet.specs.Lines.{formula}
-use Rattle.sheet.specs.Sheet.{LogicOf, ops, Sheet, Call, read_at, Reply, done, rounds, value, refused, Verdict, refuse, accept, OpensAs, Step, Opens, draft_on}
+use Rattle.sheet.specs.Sheet.{LogicOf, ops, Sheet, Call, read_at, Reply, rounds, value, refused, Verdict, refuse, accept, OpensAs, Step, Opens, draft_on}
 use Rattle.sheet.specs.Account.{Event, Account, plan, opening, Judges, onward}
 
 -- The beginning of the memory that a call is lent, and the whole after the call.

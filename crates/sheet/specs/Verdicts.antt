@@ -1,5 +1,5 @@
 -- The verdict that the answer of a check stands for.
-use Rattle.std.specs.Prelude.{◌≡◌, ℕ, List, [], ◌∷◌, Some, None, Ok, Err, Option, Result}
+use Rattle.std.specs.Prelude.{◌≡◌, ℕ, [], ◌∷◌, Some, None, Ok, Err, Option, Result}
 use Rattle.scale.specs.Model.{Model}
 use Rattle.lines.specs.declared.Line.{Line}
 use Rattle.lines.specs.Word.{word_of}

@@ -1,5 +1,5 @@
 use Rattle.std.proofs.Common.{◌++◌, vec_items, string_bytes, ap, ◌∙◌, rules}
-use Rattle.report.specs.Texts.{outputs_text, stopped_text}
+use Rattle.report.specs.Texts.{outputs_text}
 use Rattle.report.proofs.Texts.{text_more, text_all}
 use Rattle.report.proofs.Outcome.text.Goals as goal
 

@@ -1,7 +1,7 @@
-use Rattle.std.proofs.Common.{◌≡◌, ℕ, ◌+◌, ◌<◌, [], ◌∷◌, length, set, sym, refl, ap, ◌∙◌, arith}
+use Rattle.std.proofs.Common.{◌≡◌, ◌+◌, ◌<◌, [], ◌∷◌, set, sym, refl, ap, ◌∙◌, arith}
 use Rattle.formula.specs.Tells.{held}
 use Rattle.sheet.specs.Logics.{logic_of}
-use Rattle.sheet.specs.Sheet.{line, done, refused, draft_on, with_words, appended}
+use Rattle.sheet.specs.Sheet.{line, done, refused, draft_on, with_words}
 use Rattle.sheet.proofs.Agree.{passed}
 use Rattle.sheet.proofs.Calls.{told, refuses, does}
 use Rattle.sheet.proofs.state.Draft.line.Goals as goal

@@ -1,4 +1,4 @@
-use Rattle.std.proofs.Common.{◌<◌, [], length, set, sym, refl, ap, subst, rules}
+use Rattle.std.proofs.Common.{◌<◌, [], length, set, refl, ap, rules}
 use Rattle.formula.specs.Tells.{held}
 use Rattle.sheet.specs.Layout.{mark_place}
 use Rattle.sheet.specs.Logics.{logic_of}

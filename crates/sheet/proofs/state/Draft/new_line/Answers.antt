@@ -1,4 +1,4 @@
-use Rattle.std.proofs.Common.{◌≡◌, ℕ, ◌<◌, [], ◌∷◌, sym, refl, subst, inl, inr, arith}
+use Rattle.std.proofs.Common.{ℕ, ◌<◌, [], ◌∷◌, sym, refl, subst, inl, inr, arith}
 use Rattle.lines.specs.Word.{FitsAt, WellFormed}
 use Rattle.formula.specs.Tells.{held}
 use Rattle.sheet.specs.declared.state.Refusal.TheVariants.{Full, Line}

@@ -1,4 +1,4 @@
-use Rattle.std.proofs.Common.{◌≡◌, ℕ, [], length, sym, refl, subst}
+use Rattle.std.proofs.Common.{ℕ, [], sym, refl, subst}
 use Rattle.formula.specs.Tells.{held}
 use Rattle.sheet.specs.Filling.{Filled}
 use Rattle.sheet.specs.Lines.{Says}
