@@ -1,5 +1,5 @@
 -- Calls that are lent the whole memory, one after another.
-use Rattle.std.proofs.Common.{◌≡◌, ℕ, ◌≤◌, List, [], ◌∷◌, ◌++◌, length, take, drop, Some, None, Ok, Err, Option, Result, sym, refl, ap, ◌∙◌, subst, append_assoc, append-nil, arith, take_all}
+use Rattle.std.proofs.Common.{◌≡◌, ℕ, List, [], ◌∷◌, ◌++◌, length, take, drop, Some, None, Ok, Err, Option, Result, sym, refl, ap, ◌∙◌, subst, append_assoc, append-nil, arith, take_all}
 use Rattle.std.proofs.lemmas.List.{drop_all}
 use Rattle.words.specs.declared.kind.Entry.{Entry}
 use Rattle.words.specs.declared.kind.Entry.TheVariants.{Arrow, Mark, Line}
@@ -7,12 +7,11 @@ use Rattle.scale.specs.Model.{Model}
 use Rattle.sheet.specs.declared.state.Refusal.{Refusal}
 use Rattle.sheet.specs.Layout.{most_lines}
 use Rattle.sheet.specs.Sheet.{LogicOf, Sheet, Call, arrow, mark, line, text, settle, read_at, reopen, Phase, Reply, done, rounds, value, refused, Step}
-use Rattle.sheet.specs.Account.{Event}
-use Rattle.sheet.specs.Runs.{Moves, Past, Run, still, more, lent_to, back}
+use Rattle.sheet.specs.Runs.{Moves, still, more, lent_to, back}
 use Rattle.report.specs.declared.Output.{Output}
 use Rattle.report.specs.declared.Output.TheVariants.{Value}
-use Rattle.plan.specs.Calls.{entry_call, lent_values, past, Spells, enters, reopens, settles, reads, OutOfPhase, Made, all, stops, goes, call_prints, prints}
-use Rattle.plan.specs.Phases.{Lead, Leads, WordDone, sheet_in, phase_of}
+use Rattle.plan.specs.Calls.{entry_call, lent_values, past, Spells, enters, reopens, settles, reads, OutOfPhase, all, stops, goes, call_prints, prints}
+use Rattle.plan.specs.Phases.{Lead, Leads, WordDone, sheet_in}
 use Rattle.words.specs.declared.kind.Kind.{Kind}
 use Rattle.words.specs.declared.kind.Kind.TheVariants.{End, Enter, Ask}
 use Rattle.plan.specs.declared.phase.Phase as states

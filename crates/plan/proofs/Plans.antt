@@ -17,7 +17,7 @@ use Rattle.sheet.specs.Logics.{logic_of}
 use Rattle.report.specs.declared.Output.{Output}
 use Rattle.report.specs.declared.Stop.{Stop}
 use Rattle.plan.specs.Calls.{word_at, SheetPlan}
-use Rattle.plan.specs.Plans.{chain_logic, sets_logic, table_logic, logic_at, TableWords, NoLogic, Plan, no_word, other_word, over_chain, no_chain, over_sets, no_sets, over_table, no_table, unended_table}
+use Rattle.plan.specs.Plans.{chain_logic, sets_logic, table_logic, logic_at, TableWords, Plan, no_word, other_word, over_chain, no_chain, over_sets, no_sets, over_table, no_table, unended_table}
 
 module _ (more : Bool) (words : List ℕ) (os : List Output) (stop : Option Stop) where
   -- what is printed and where it stops, by equations

@@ -10,7 +10,7 @@ use Rattle.sheet.specs.Sheet.{LogicOf, Sheet, drafting, refuse, accept, OpensAs,
 use Rattle.sheet.specs.Runs.{Run, Law, LawfulRun}
 use Rattle.report.specs.declared.Output.{Output}
 use Rattle.report.specs.declared.Stop.{Stop}
-use Rattle.plan.specs.Calls.{lent_values, Read, prints, opened, word_at, call_at, Played, SheetPlan, no_size, other_word, not_opened, played}
+use Rattle.plan.specs.Calls.{lent_values, prints, opened, word_at, call_at, SheetPlan, no_size, other_word, not_opened, played}
 use Rattle.plan.specs.Phases.{Plays}
 
 -- what holds of all that was made

@@ -9,7 +9,6 @@ use Rattle.words.specs.Kinds.{kind_of}
 use Rattle.sheet.specs.declared.state.Refusal as sheets
 use Rattle.sheet.specs.Layout.{most_lines, room}
 use Rattle.sheet.specs.Sheet.{LogicOf, Sheet as Sheet-of, Phase, drafting, settled, Call, arrow, mark, line, text, settle, read_at, reopen, Reply, done, rounds, value, refused, refuse, accept, OpensAs}
-use Rattle.sheet.specs.Account.{Event}
 use Rattle.sheet.specs.Runs.{Past, Run, LawfulRun}
 use Rattle.report.specs.declared.Output.{Output}
 use Rattle.report.specs.declared.Output.TheVariants.{Rounds, Value}

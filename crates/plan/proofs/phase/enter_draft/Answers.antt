@@ -1,6 +1,6 @@
-use Rattle.std.proofs.Common.{◌≡◌, [], Some, None, sym, refl}
+use Rattle.std.proofs.Common.{[], None, sym, refl}
 use Rattle.sheet.specs.Logics.{logic_of}
-use Rattle.sheet.specs.Sheet.{draft_on, done, refused}
+use Rattle.sheet.specs.Sheet.{draft_on, done}
 use Rattle.plan.specs.Calls.{entry_call}
 use Rattle.plan.proofs.Leads.{first, ended, refused_first, done_accepted, entry_prints}
 use Rattle.plan.proofs.phase.enter_draft.Goals as goal

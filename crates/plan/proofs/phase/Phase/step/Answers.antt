@@ -1,7 +1,7 @@
-use Rattle.std.proofs.Common.{◌≡◌, [], ◌∷◌, vec_items, refl, rules}
+use Rattle.std.proofs.Common.{[], ◌∷◌, vec_items, refl, rules}
 use Rattle.words.specs.declared.kind.Kind.TheVariants.{Enter, Ask}
 use Rattle.sheet.specs.Logics.{logic_of}
-use Rattle.sheet.specs.Sheet.{Sheet, draft_on, settled_on, drafting, settled, settle, read_at, reopen, done}
+use Rattle.sheet.specs.Sheet.{draft_on, settled_on, drafting, settled, settle, read_at, reopen, done}
 use Rattle.plan.specs.declared.phase.Phase.TheVariants.{Draft, Settled}
 use Rattle.plan.specs.Calls.{entry_call, enters, reopens, settles, reads}
 use Rattle.plan.proofs.Leads.{leads_first, leads_silent, word_done_at, done_accepted, out_of_phase}
@@ -63,5 +63,5 @@ returns-in-Settled-Ask g c =
 pub returns-in_default : goal.returns-in_default
 returns-in_default g c = (out_of_phase (search rules) (λ e is. search rules) (λ k s is. search rules), refl)
 
-pub returns-in_default·2 : goal.returns-in_default·2
-returns-in_default·2 g c = (out_of_phase (search rules) (λ e is. search rules) (λ k s is. search rules), refl)
+pub returns-in_default-2 : goal.returns-in_default-2
+returns-in_default-2 g c = (out_of_phase (search rules) (λ e is. search rules) (λ k s is. search rules), refl)
