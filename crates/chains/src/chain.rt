@@ -1,7 +1,7 @@
 ghost use Rattle.std.specs.Prelude.{◌≡◌, ℕ, ◌≤◌, Bool, true, false, Ok, Err};
 ghost use Rattle.scale.specs.Refusals.{refusal_number};
 ghost use Rattle.chains.specs.Ranges.{within};
-ghost use Rattle.chains.specs.Chains.{chain as chain-model, chain_opposite, chain_partner};
+ghost use Rattle.chains.specs.Chains.{chain as chain_model, chain_opposite, chain_partner};
 ghost use Rattle.chains.specs.ChainLaws.{chain_lawful, chain_opposed};
 
 use scale::{Logic, Refusal, Scale};
@@ -30,7 +30,7 @@ impl Chain {
 impl Scale for Chain {
     type Value = u8;
 
-    ghost model = { λ s. chain-model s.n };
+    ghost model = { λ s. chain_model s.n };
 
     ghost lawful = { λ s. chain_lawful s.n s.least s.most };
 

@@ -1,7 +1,7 @@
 ghost use Rattle.std.specs.Prelude.{◌≡◌, ℕ, ◌-◌, ◌^◌, ◌<◌, ◌≤◌, Bool, true, false, Ok, Err};
 ghost use Rattle.scale.specs.Refusals.{refusal_number};
 ghost use Rattle.chains.specs.Ranges.{within};
-ghost use Rattle.chains.specs.Sets.{sets as sets-model, sets_opposite, sets_partner};
+ghost use Rattle.chains.specs.Sets.{sets as sets_model, sets_opposite, sets_partner};
 ghost use Rattle.chains.specs.SetLaws.{sets_lawful, sets_opposed};
 
 use scale::{Logic, Refusal, Scale};
@@ -38,7 +38,7 @@ impl Sets {
 impl Scale for Sets {
     type Value = u16;
 
-    ghost model = { λ s. sets-model s.k };
+    ghost model = { λ s. sets_model s.k };
 
     ghost lawful = { λ s. sets_lawful s.k s.least s.most };
 

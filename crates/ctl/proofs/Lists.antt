@@ -78,7 +78,7 @@ module _ {V : Type 0} (o : Ops V) where
     count_is zero i e moves = absurd (let l = early o c n step firm n (moves n (omega arith)) in omega arith)
     count_is (suc left) i e moves =
         go (λ more. count_is left (suc i) (omega arith) (λ k h.
-        ⊎_elim (λ same-k. subst (λ a. Same n (after o step (suc a)) (after o step a) → ⊥) (sym same-k) more)
+        ⊎_elim (λ same_k. subst (λ a. Same n (after o step (suc a)) (after o step a) → ⊥) (sym same_k) more)
         (⊎_elim (λ l. moves k l) (λ l. absurd (omega arith))) (cases_order k i)))
         (alike o (rounds o n step i) (rounds o n step (suc i))) refl
       where
@@ -86,8 +86,8 @@ module _ {V : Type 0} (o : Ops V) where
             (b : Bool) → alike o (rounds o n step i) (rounds o n step (suc i)) ≡ b → Rounds o n step (i + changes o n step (suc left) (rounds o n step i))
         go rest true e =
             subst (λ b. Rounds o n step (i + (elim b [ true ↦ 0 | false ↦ suc (changes o n step left (rounds o n step (suc i))) ]))) (sym e)
-            (let None-more : i ≡ i + 0 = omega arith in
-            subst (Rounds o n step) None-more (record { changing = moves; still = is_still i e }))
+            (let NoneMore : i ≡ i + 0 = omega arith in
+            subst (Rounds o n step) NoneMore (record { changing = moves; still = is_still i e }))
         go rest false e =
             subst (λ b. Rounds o n step (i + (elim b [ true ↦ 0 | false ↦ suc (changes o n step left (rounds o n step (suc i))) ]))) (sym e)
             (let one_more : suc i + changes o n step left (rounds o n step (suc i)) ≡ i + suc (changes o n step left (rounds o n step (suc i))) = omega arith in

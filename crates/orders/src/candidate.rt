@@ -1,6 +1,6 @@
 ghost use Rattle.std.specs.Prelude.{◌≡◌, ℕ, ◌%◌, ◌<◌, true, false, length, MatchOption, slice_index};
 ghost use Rattle.orders.specs.Finite.{Filled};
-ghost use Rattle.orders.specs.Orders.{implies as implies-test, under, meet_of, join_of, highest_of, lowest_of, irreducible, ceiling_of, order_at, bounded_at, spread_at, opposed_at, irreducible_at, listed, reversed_rows, cell_of};
+ghost use Rattle.orders.specs.Orders.{implies as implies_test, under, meet_of, join_of, highest_of, lowest_of, irreducible, ceiling_of, order_at, bounded_at, spread_at, opposed_at, irreducible_at, listed, reversed_rows, cell_of};
 ghost use Rattle.orders.specs.Words.{readable, rows_of, opposites_of, law_verdict};
 ghost use Rattle.orders.specs.LawTests.{law_at, on_values, on_pairs, on_triples};
 
@@ -213,7 +213,7 @@ impl Candidate {
 
 // Whether y holds where x does.
 fn implies(x: bool, y: bool) -> bool
-    ensures { result ≡ implies-test x y }
+    ensures { result ≡ implies_test x y }
 {
     !x || y
 }

@@ -32,13 +32,13 @@ value_accepted v r e = let z : ◌≡◌ {A = ℕ} 0 1 = cc in omega arith
 -- ---- words that are neither entries nor asks nor the end
 
 no_calls : {p q : Phase} {k : Kind} {cs : List Call} → ((e : Entry) → k ≡ Enter e → ⊥) → ((i s : ℕ) → k ≡ Ask i s → ⊥) → Spells p k cs q → ⊥
-no_calls no-entry no-ask (enters {e}) = no-entry e refl
-no_calls no-entry no-ask (reopens {e}) = no-entry e refl
-no_calls no-entry no-ask (settles {k} {s}) = no-ask k s refl
-no_calls no-entry no-ask (reads {k} {s}) = no-ask k s refl
+no_calls no_entry no_ask (enters {e}) = no_entry e refl
+no_calls no_entry no_ask (reopens {e}) = no_entry e refl
+no_calls no_entry no_ask (settles {k} {s}) = no_ask k s refl
+no_calls no_entry no_ask (reads {k} {s}) = no_ask k s refl
 
 pub out_of_phase : {p : Phase} {k : Kind} → (k ≡ End → ⊥) → ((e : Entry) → k ≡ Enter e → ⊥) → ((i s : ℕ) → k ≡ Ask i s → ⊥) → OutOfPhase p k
-out_of_phase no_end no-entry no-ask = record { no_end = no_end; no_calls = λ cs q sp. no_calls no-entry no-ask sp }
+out_of_phase no_end no_entry no_ask = record { no_end = no_end; no_calls = λ cs q sp. no_calls no_entry no_ask sp }
 
 -- ---- what prints nothing
 

@@ -84,12 +84,12 @@ module _ (more : Bool) (words : List ℕ) (os : List Output) (stop : Option Stop
       pub plan_table : (c : ℕ) (rows opposites : List ℕ) → verdict (between 0 count words) ≡ Ok tt →
           c ≡ length (between 0 count words) → rows ≡ rows_of (between 0 count words) → opposites ≡ opposites_of (between 0 count words) →
           SheetPlan (logic_of (table_model c rows) (listed opposites) (table_partner c rows opposites)) more count (between count (length words) words) os stop → Plan more words os stop
-      plan_table c rows opposites judged c-is rows_is opposites-is h =
+      plan_table c rows opposites judged c_is rows_is opposites_is h =
           let ts = between 0 count words in
           let over : SheetPlan (table_logic ts) more count (between count (length words) words) os stop =
-          subst (λ y. SheetPlan (logic_of (table_model (length ts) (rows_of ts)) (listed y) (table_partner (length ts) (rows_of ts) y)) more count (between count (length words) words) os stop) opposites-is
+          subst (λ y. SheetPlan (logic_of (table_model (length ts) (rows_of ts)) (listed y) (table_partner (length ts) (rows_of ts) y)) more count (between count (length words) words) os stop) opposites_is
           (subst (λ y. SheetPlan (logic_of (table_model (length ts) y) (listed opposites) (table_partner (length ts) y opposites)) more count (between count (length words) words) os stop) rows_is
-          (subst (λ y. SheetPlan (logic_of (table_model y rows) (listed opposites) (table_partner y rows opposites)) more count (between count (length words) words) os stop) c-is h))
+          (subst (λ y. SheetPlan (logic_of (table_model y rows) (listed opposites) (table_partner y rows opposites)) more count (between count (length words) words) os stop) c_is h))
           in
           told_by (take count words ++ (get_or words count 0 ∷ drop (suc count) words)) os stop parts refl refl
           (over_table (get_or words count 0) (take count words) (drop (suc count) words) (table_words (omega arith)) last (ap verdict (sym front) ∙ judged)

@@ -8,7 +8,7 @@ use Rattle.words.specs.declared.kind.Kind.TheVariants.{End, Size, Enter, Ask}
 use Rattle.words.specs.Kinds.{kind_of}
 use Rattle.sheet.specs.declared.state.Refusal as sheets
 use Rattle.sheet.specs.Layout.{most_lines, room}
-use Rattle.sheet.specs.Sheet.{LogicOf, Sheet as Sheet-of, Phase, drafting, settled, Call, arrow, mark, line, text, settle, read_at, reopen, Reply, done, rounds, value, refused, refuse, accept, OpensAs}
+use Rattle.sheet.specs.Sheet.{LogicOf, Sheet as SheetOf, Phase, drafting, settled, Call, arrow, mark, line, text, settle, read_at, reopen, Reply, done, rounds, value, refused, refuse, accept, OpensAs}
 use Rattle.sheet.specs.Runs.{Past, Run, LawfulRun}
 use Rattle.report.specs.declared.Output.{Output}
 use Rattle.report.specs.declared.Output.TheVariants.{Rounds, Value}
@@ -92,14 +92,14 @@ prints m [] = []
 prints m (p ∷ h) = call_prints m p.event.call p.reply ++ prints m h
 
 -- A sheet of n stages and a marks that has just been opened.
-abbrev pub opened : {V : Type 0} → Model V → ℕ → ℕ → Sheet-of V
+abbrev pub opened : {V : Type 0} → Model V → ℕ → ℕ → SheetOf V
 opened m n a = record { phase = drafting; stages = n; marks = a; lines = 0; stretch = replicate lent_values m.lowest; words = replicate most_lines 0 }
 
 -- The words after the size word, from number i on: they spell a history of calls, which is a run of the opened sheet, so that the
 -- law for all runs holds of every answer; what is printed is what this history prints.
 pub record Played {V : Type 0} (l : LogicOf V) (n a : ℕ) (more : Bool) (i : ℕ) (ws : List ℕ) (os : List Output) (stop : Option Stop) : Type 0 where
   pub history : List (Past V)
-  pub last : Sheet-of V
+  pub last : SheetOf V
   pub spelled : Read more i drafting ws history stop
   pub run : Run l (opened l.model n a) history last
   pub lawful : LawfulRun l n a (opened l.model n a) history last

@@ -3,8 +3,8 @@ use Rattle.std.specs.Prelude.{◌≡◌, ℕ, ◌*◌, ◌<◌, Bool, true, fals
 use Rattle.scale.specs.declared.Refusal.{Refusal}
 use Rattle.scale.specs.Refusals.{refusal_number}
 use Rattle.chains.specs.Ranges.{within}
-use Rattle.chains.specs.Chains.{chain as chain-model, chain_opposite, chain_partner}
-use Rattle.chains.specs.Sets.{sets as sets-model, sets_opposite, sets_partner}
+use Rattle.chains.specs.Chains.{chain as chain_model, chain_opposite, chain_partner}
+use Rattle.chains.specs.Sets.{sets as sets_model, sets_opposite, sets_partner}
 use Rattle.orders.specs.Orders.{listed}
 use Rattle.orders.specs.Words.{rows_of, opposites_of, verdict}
 use Rattle.table.specs.Tables.{table_model, table_partner}
@@ -32,10 +32,10 @@ left_over bytes = nat_lt (4 * length (plan_words bytes)) (length bytes)
 
 -- The logics that a plan can name.
 abbrev pub chain_logic : ℕ → LogicOf ℕ
-chain_logic n = logic_of (chain-model n) (chain_opposite n) (chain_partner n)
+chain_logic n = logic_of (chain_model n) (chain_opposite n) (chain_partner n)
 
 abbrev pub sets_logic : ℕ → LogicOf ℕ
-sets_logic k = logic_of (sets-model k) (sets_opposite k) sets_partner
+sets_logic k = logic_of (sets_model k) (sets_opposite k) sets_partner
 
 abbrev pub table_logic : List ℕ → LogicOf ℕ
 table_logic ws = logic_of (table_model (length ws) (rows_of ws)) (listed (opposites_of ws)) (table_partner (length ws) (rows_of ws) (opposites_of ws))

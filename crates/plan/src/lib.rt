@@ -2,7 +2,7 @@
 #![tactic(auto)]
 
 ghost use Rattle.std.specs.Prelude.{◌≡◌, ℕ, ◌<◌, ◌≤◌, [], length, IfOk, ◌≢◌, slice_index};
-ghost use Rattle.words.specs.declared.kind.Kind.TheVariants.{Table as table-kind};
+ghost use Rattle.words.specs.declared.kind.Kind.TheVariants.{Table as table_kind};
 ghost use Rattle.words.specs.Kinds.{kind_of};
 ghost use Rattle.plan.specs.Plans.{plan_words, left_over, logic_at, Plan};
 
@@ -45,8 +45,8 @@ fn stopped(heap: Global, stop: Option<Stop>) -> Outcome
 // How many of the words are those of a table, before the first that is not.
 fn table_words(words: &[u32]) -> usize
     ensures within { result ≤ length words.now }
-    ensures each { (k : ℕ) → k < result → kind_of (slice_index words.now k) ≡ table-kind }
-    ensures last { result < length words.now → kind_of (slice_index words.now result) ≢ table-kind }
+    ensures each { (k : ℕ) → k < result → kind_of (slice_index words.now k) ≡ table_kind }
+    ensures last { result < length words.now → kind_of (slice_index words.now result) ≢ table_kind }
 {
     for (i, word) in words.iter().enumerate() {
         match Kind::of(*word) {
@@ -61,7 +61,7 @@ fn table_words(words: &[u32]) -> usize
 fn run_table(heap: Global, words: &[u32], more: bool) -> Result<Outcome, AllocError>
     requires few { length words.now ≤ 8192 }
     requires some { 0 < length words.now }
-    requires first { kind_of (slice_index words.now 0) ≡ table-kind }
+    requires first { kind_of (slice_index words.now 0) ≡ table_kind }
     ensures { IfOk result (λ o. Plan more words.now o.outputs.items o.stop) }
 {
     let count = table_words(words);

@@ -17,12 +17,12 @@ module _ {V : Type 0} (m : Model V) (opposite : V → V) (partner : ℕ → ℕ)
       r ≡ joined o (t + 1) x
   ex_more t x sum arrow reading value along r so_far is_read valid here met joins =
       let read_valid : Is m reading = subst (Is m) (sym is_read) (read_is m l arrow) in
-      let along-is : along ≡ m.meet reading value = met read_valid valid in
-      let along-valid : Is m along = subst (Is m) (sym along-is) (l.meet_valid reading value read_valid valid) in
-      let sum-valid : Is m sum = subst (Is m) (sym so_far) (joined_valid o (sound m opposite partner l op) t x) in
-      joins sum-valid along-valid
-      ∙ sym (ap₂ m.join (read_same m l sum sum-valid) (read_same m l along along-valid))
-      ∙ ap₂ o.join so_far (along-is ∙ ap₂ m.meet is_read (sym (read_same m l value valid)) ∙ sym here)
+      let along_is : along ≡ m.meet reading value = met read_valid valid in
+      let along_valid : Is m along = subst (Is m) (sym along_is) (l.meet_valid reading value read_valid valid) in
+      let sum_valid : Is m sum = subst (Is m) (sym so_far) (joined_valid o (sound m opposite partner l op) t x) in
+      joins sum_valid along_valid
+      ∙ sym (ap₂ m.join (read_same m l sum sum_valid) (read_same m l along along_valid))
+      ∙ ap₂ o.join so_far (along_is ∙ ap₂ m.meet is_read (sym (read_same m l value valid)) ∙ sym here)
       ∙ sym (ap (λ k. joined o k x) (add-one t))
 
   -- the opposite of what a pattern is read as is its opposite

@@ -11,7 +11,7 @@ use Rattle.formula.specs.Grammar.{Tree}
 use Rattle.ctl.specs.Operations.{Valid}
 use Rattle.ctl.specs.Values.{Row, Value}
 use Rattle.sheet.specs.declared.state.Refusal.{Refusal}
-use Rattle.sheet.specs.declared.state.Refusal.TheVariants.{Line as Bad-line}
+use Rattle.sheet.specs.declared.state.Refusal.TheVariants.{Line as BadLine}
 use Rattle.sheet.specs.Layout.{room, arrow_place, mark_place, answer_row}
 use Rattle.sheet.specs.Lines.{formula, tree_lines, Fitting, Says, GreatestCount}
 use Rattle.sheet.specs.Sheet.{LogicOf, ops, Phase, drafting, settled, Sheet, Call, arrow, mark, line, text, settle, read_at, reopen, Reply, done, rounds, value, refused, Permits, Verdict, refuse, accept, needs, accepts, lent, Judged, plan_in, answers_in, Settles, wipes, left, Ends}
@@ -98,19 +98,19 @@ module _ {V : Type 0} (m : Model V) (n a vs ws : ℕ) where
   in_order count P Q (line w) v f g d = d
   in_order count P Q (text ns bs) v f g d = d
   in_order count P Q settle v f g d =
-      lent_map (needs P Bad-line (λ _. accepts [])) (needs Q Bad-line (λ _. accepts [])) v (λ h. ⊎_elim (λ p. inl ((λ q. p.0 (g h q)), p.1)) (λ p. inr (f h p.0, p.1))) d
+      lent_map (needs P BadLine (λ _. accepts [])) (needs Q BadLine (λ _. accepts [])) v (λ h. ⊎_elim (λ p. inl ((λ q. p.0 (g h q)), p.1)) (λ p. inr (f h p.0, p.1))) d
   in_order count P Q (read_at k i) v f g d = d
   in_order count P Q reopen v f g d = d
 
 -- ---- one call on what is lent of a sheet that stands for an account
 
 module _ {V : Type 0} (l : LogicOf V) (x : Account V) (ph : Phase) (s : List V) (ws : List ℕ) (e : Event) (ok : Agrees l x ph s ws)
-    (vs-in : e.values_lent ≤ length s) (ws-in : e.words_lent ≤ length ws) where
+    (vs_in : e.values_lent ≤ length s) (ws_in : e.words_lent ≤ length ws) where
   values_size : length (take e.values_lent s) ≡ e.values_lent
-  values_size = length-take-le e.values_lent s vs-in
+  values_size = length-take-le e.values_lent s vs_in
 
   words_size : length (take e.words_lent ws) ≡ e.words_lent
-  words_size = length-take-le e.words_lent ws ws-in
+  words_size = length-take-le e.words_lent ws ws_in
 
   -- the account's lines are what the words lent say
   says_lines : 64 ≤ e.words_lent → Says x.marks (length x.lines) (take e.words_lent ws) x.lines
@@ -228,7 +228,7 @@ module _ {V : Type 0} (l : LogicOf V) (x : Account V) (ph : Phase) (s : List V) 
       ((i : ℕ) → i < length new → FitsAt (length x.lines + i) x.marks (get_or new i False)) →
       (t : Sheet V) → t ≡ back e (on x ph s ws) (record { phase = ph; stages = x.stages; marks = x.marks; lines = length x.lines + length new; stretch = take e.values_lent s; words = sets (take e.words_lent ws) (length x.lines) (map word_of new) }) →
       Stands l y t
-  append_goes y new yis draft wordy room-left fits t q =
+  append_goes y new yis draft wordy room_left fits t q =
       let k0 = length x.lines in
       let z = x.lines ++ new in
       let size : length z ≡ k0 + length new = length-append x.lines new in

@@ -239,11 +239,11 @@ module _ {V : Type 0} (l : LogicOf V) (known : Small l.model → Meaning (ops l)
       (rest.0, and_then one.0 one.1 rest.1, rest.2)
 
   pub tells : (w : Sheet V) (c : Call) (b : Reply V) (u : Sheet V) → Step l w c b u → Tells l w c b
-  tells w c b u st n a s t ws xs d op h v r e call-is hv hw part =
+  tells w c b u st n a s t ws xs d op h v r e call_is hv hw part =
       let from = opened_stands n a s ws (draft_on d t xs) (few_marks n a (length s) (length ws) op.0) op.1 in
       let now = accounts (opening l.model n a) from r in
       let P : Sheet V → Type 0 = λ z. Step l z e.call b u in
       let Q : Call → Type 0 = λ z. Step l w z b u in
-      let m : Moves l v e b (back e v u) = record { within_values = hv; within_words = hw; to = u; step = subst P (sym part) (subst Q (sym call-is) st); whole = refl } in
+      let m : Moves l v e b (back e v u) = record { within_values = hv; within_words = hw; to = u; step = subst P (sym part) (subst Q (sym call_is) st); whole = refl } in
       let one = goes l now.0 v e b (back e v u) now.2 m in
       (now.0, now.1, (one.0, told_by now.0 v now.2 e one.0 b one.1 one.2))

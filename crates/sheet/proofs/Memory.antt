@@ -42,12 +42,12 @@ sets_at d p s (v ∷ vs) (suc i) h k =
 
 -- words of which all after the first k are zero are left as they stood
 pub cleared_same : (k : ℕ) (ws : List ℕ) → ((i : ℕ) → k ≤ i → get_or ws i 0 ≡ 0) → cleared k ws ≡ ws
-cleared_same k ws zero-after =
+cleared_same k ws zero_after =
     let size = length-drop k ws in
     let size2 = length-replicate {A = ℕ} (length ws - k) 0 in
     ap (λ l. take k ws ++ l)
     (ext_get_or 0 (replicate (length ws - k) 0) (drop k ws) (omega arith)
-    (λ i l. get_or-replicate (length ws - k) i 0 0 (omega arith) ∙ sym (get_or-drop k ws i 0 ∙ zero-after (k + i) (omega arith))))
+    (λ i l. get_or-replicate (length ws - k) i 0 0 (omega arith) ∙ sym (get_or-drop k ws i 0 ∙ zero_after (k + i) (omega arith))))
     ∙ take-append-drop k ws
 
 -- an entry of a beginning of k, put back before the rest

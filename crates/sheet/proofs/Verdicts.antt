@@ -24,7 +24,7 @@ module _ {V : Type 0} (m : Model V) (n a vs ws : ℕ) where
   pub lent_once : (rest : Verdict → Type 0) → ((v u : Verdict) → rest v → rest u → v ≡ u) → (v u : Verdict) → lent m n a vs ws rest v → lent m n a vs ws rest u → v ≡ u
   lent_once rest f = needs_once _ _ _ (λ _ _. needs_once _ _ _ (λ _ _. needs_once _ _ _ (λ _ _. f)))
 
-  pub judged_once : (count : ℕ) (In-order : Type 0) (c : Call) → count ≤ 64 → a ≤ 256 → (v u : Verdict) → Judged m n a vs ws count In-order c v → Judged m n a vs ws count In-order c u → v ≡ u
+  pub judged_once : (count : ℕ) (InOrder : Type 0) (c : Call) → count ≤ 64 → a ≤ 256 → (v u : Verdict) → Judged m n a vs ws count InOrder c v → Judged m n a vs ws count InOrder c u → v ≡ u
   judged_once count P (arrow s t k) hc ha = lent_once _ (needs_once _ _ _ (λ _ _. needs_once _ _ _ (λ _ _. accepts_once [])))
   judged_once count P (mark s k x) hc ha = lent_once _ (needs_once _ _ _ (λ _ _. needs_once _ _ _ (λ _ _. needs_once _ _ _ (λ _ _. accepts_once []))))
   judged_once count P (line w) hc ha =

@@ -14,7 +14,7 @@ use Rattle.ctl.specs.Values.{Row, Value}
 use Rattle.sheet.specs.declared.state.Draft.{Draft}
 use Rattle.sheet.specs.declared.state.Settled.{Settled}
 use Rattle.sheet.specs.declared.state.Refusal.{Refusal}
-use Rattle.sheet.specs.declared.state.Refusal.TheVariants.{Size, Stretch, Words, State, Mark, Value as No-value, Line as Bad-line, Full, Answer, Logic, Names, Text}
+use Rattle.sheet.specs.declared.state.Refusal.TheVariants.{Size, Stretch, Words, State, Mark, Value as NoValue, Line as BadLine, Full, Answer, Logic, Names, Text}
 use Rattle.sheet.specs.Layout.{most_lines, room, arrow_place, mark_place, answer_row, work_rows}
 use Rattle.sheet.specs.Lines.{formula, tree_lines, Says, GreatestCount}
 
@@ -42,11 +42,11 @@ pub record Sheet (V : Type 0) : Type 0 where
 -- A call with its arguments: values go by their numbers, lines by their words, texts by their bytes.
 pub data Call : Type 0 where
   arrow : (from to number : ℕ) → Call
-  mark : (stage number-of-mark number : ℕ) → Call
+  mark : (stage number_of_mark number : ℕ) → Call
   line : (word : ℕ) → Call
   text : (names formula : List ℕ) → Call
   settle : Call
-  read_at : (of-line stage : ℕ) → Call
+  read_at : (of_line stage : ℕ) → Call
   reopen : Call
 
 -- What a call answers.
@@ -89,16 +89,16 @@ accepts new v = v ≡ accept new
 -- line words are in order.
 module _ {V : Type 0} (m : Model V) (n a : ℕ) where
   abbrev pub Asked : ℕ → Type 0 → Call → Verdict → Type 0
-  Asked count In-order (arrow s t v) = needs ((s < n) × (t < n)) State (λ _. needs (v < m.size) No-value (λ _. accepts []))
-  Asked count In-order (mark s k v) = needs (s < n) State (λ _. needs (k < a) Mark (λ _. needs (v < m.size) No-value (λ _. accepts [])))
-  Asked count In-order (line w) = needs (count < most_lines) Full (λ _. needs (WellFormed count a w) Bad-line (λ l. accepts (l.0 ∷ [])))
-  Asked count In-order (text ns bs) =
+  Asked count InOrder (arrow s t v) = needs ((s < n) × (t < n)) State (λ _. needs (v < m.size) NoValue (λ _. accepts []))
+  Asked count InOrder (mark s k v) = needs (s < n) State (λ _. needs (k < a) Mark (λ _. needs (v < m.size) NoValue (λ _. accepts [])))
+  Asked count InOrder (line w) = needs (count < most_lines) Full (λ _. needs (WellFormed count a w) BadLine (λ l. accepts (l.0 ∷ [])))
+  Asked count InOrder (text ns bs) =
       needs (Proper ns a) Names (λ _.
       needs ((t : Tree) × Taken ns bs t) Text (λ t.
       needs (count + size t.0 ≤ most_lines) Full (λ _. accepts (tree_lines count t.0))))
-  Asked count In-order settle = needs In-order Bad-line (λ _. accepts [])
-  Asked count In-order (read_at k s) = needs (k < count) Answer (λ _. needs (s < n) State (λ _. accepts []))
-  Asked count In-order reopen = accepts []
+  Asked count InOrder settle = needs InOrder BadLine (λ _. accepts [])
+  Asked count InOrder (read_at k s) = needs (k < count) Answer (λ _. needs (s < n) State (λ _. accepts []))
+  Asked count InOrder reopen = accepts []
 
   -- Before them come the checks of the logic and of the lengths of the stretch and of the line words lent; reopening asks nothing.
   module _ (vs ws : ℕ) where
@@ -109,13 +109,13 @@ module _ {V : Type 0} (m : Model V) (n a : ℕ) where
         needs (most_lines ≤ ws) Words (λ _. rest)))
 
     abbrev pub Judged : ℕ → Type 0 → Call → Verdict → Type 0
-    Judged count In-order (arrow s t v) = lent (Asked count In-order (arrow s t v))
-    Judged count In-order (mark s k v) = lent (Asked count In-order (mark s k v))
-    Judged count In-order (line w) = lent (Asked count In-order (line w))
-    Judged count In-order (text ns bs) = lent (Asked count In-order (text ns bs))
-    Judged count In-order settle = lent (Asked count In-order settle)
-    Judged count In-order (read_at k s) = lent (Asked count In-order (read_at k s))
-    Judged count In-order reopen = Asked count In-order reopen
+    Judged count InOrder (arrow s t v) = lent (Asked count InOrder (arrow s t v))
+    Judged count InOrder (mark s k v) = lent (Asked count InOrder (mark s k v))
+    Judged count InOrder (line w) = lent (Asked count InOrder (line w))
+    Judged count InOrder (text ns bs) = lent (Asked count InOrder (text ns bs))
+    Judged count InOrder settle = lent (Asked count InOrder settle)
+    Judged count InOrder (read_at k s) = lent (Asked count InOrder (read_at k s))
+    Judged count InOrder reopen = Asked count InOrder reopen
 
     -- The checks of opening.
     abbrev pub OpensAs : Verdict → Type 0
@@ -186,8 +186,8 @@ text_wipes Stretch = false
 text_wipes Words = false
 text_wipes State = false
 text_wipes Mark = false
-text_wipes No-value = false
-text_wipes Bad-line = false
+text_wipes NoValue = false
+text_wipes BadLine = false
 text_wipes Full = true
 text_wipes Answer = false
 text_wipes Logic = false

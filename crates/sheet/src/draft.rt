@@ -2,7 +2,7 @@
 ghost use Rattle.std.specs.Prelude.{◌≡◌, ℕ, ◌≤◌, List, length, replicate, Ok, Err};
 ghost use Rattle.lines.specs.declared.Line.{Line as Said};
 ghost use Rattle.formula.specs.Tells.{held};
-ghost use Rattle.sheet.specs.Sheet.{Opens, Step, arrow as Enter-arrow, mark as Enter-mark, line as Enter-line, text as Enter-text, settle as Settle, Judged, draft_on, entry_reply, settle_reply, settle_sheet};
+ghost use Rattle.sheet.specs.Sheet.{Opens, Step, arrow as enter_arrow, mark as enter_mark, line as enter_line, text as enter_text, settle as Settle, Judged, draft_on, entry_reply, settle_reply, settle_sheet};
 ghost use Rattle.sheet.specs.Logics.{logic_of};
 ghost use Rattle.sheet.specs.Refusals.{text_refusal};
 ghost use Rattle.sheet.specs.Runs.{Law, Tells};
@@ -71,7 +71,7 @@ impl Draft {
         to: u8,
         number: u32,
     ) -> Result<L::Value, Refusal>
-        ensures { EntryRight (L.Scale.model logic.now) self.now.stages self.now.marks values words (held self.now.lines) (Enter-arrow from to number) number result }
+        ensures { EntryRight (L.Scale.model logic.now) self.now.stages self.now.marks values words (held self.now.lines) (enter_arrow from to number) number result }
     {
         if let Some(why) = lent_refused(logic, self.stages, self.marks, values, words) {
             return Err(why);
@@ -98,8 +98,8 @@ impl Draft {
         to: u8,
         number: u32,
     ) -> Result<(), Refusal>
-        ensures step { Step (logic_of (L.Scale.model logic.now) (L.Logic.opposes logic.now) (L.Logic.partners logic.now)) (draft_on self.old stretch.old words.now) (Enter-arrow from to number) (entry_reply result) (draft_on self.new stretch.new words.now) }
-        ensures law { Tells (logic_of (L.Scale.model logic.now) (L.Logic.opposes logic.now) (L.Logic.partners logic.now)) (draft_on self.old stretch.old words.now) (Enter-arrow from to number) (entry_reply result) }
+        ensures step { Step (logic_of (L.Scale.model logic.now) (L.Logic.opposes logic.now) (L.Logic.partners logic.now)) (draft_on self.old stretch.old words.now) (enter_arrow from to number) (entry_reply result) (draft_on self.new stretch.new words.now) }
+        ensures law { Tells (logic_of (L.Scale.model logic.now) (L.Logic.opposes logic.now) (L.Logic.partners logic.now)) (draft_on self.old stretch.old words.now) (enter_arrow from to number) (entry_reply result) }
     {
         match self.arrow_value(logic, stretch.len(), words.len(), from, to, number) {
             Ok(value) => {
@@ -121,7 +121,7 @@ impl Draft {
         mark: u8,
         number: u32,
     ) -> Result<L::Value, Refusal>
-        ensures { EntryRight (L.Scale.model logic.now) self.now.stages self.now.marks values words (held self.now.lines) (Enter-mark stage mark number) number result }
+        ensures { EntryRight (L.Scale.model logic.now) self.now.stages self.now.marks values words (held self.now.lines) (enter_mark stage mark number) number result }
     {
         if let Some(why) = lent_refused(logic, self.stages, self.marks, values, words) {
             return Err(why);
@@ -148,8 +148,8 @@ impl Draft {
         mark: u8,
         number: u32,
     ) -> Result<(), Refusal>
-        ensures step { Step (logic_of (L.Scale.model logic.now) (L.Logic.opposes logic.now) (L.Logic.partners logic.now)) (draft_on self.old stretch.old words.now) (Enter-mark stage mark number) (entry_reply result) (draft_on self.new stretch.new words.now) }
-        ensures law { Tells (logic_of (L.Scale.model logic.now) (L.Logic.opposes logic.now) (L.Logic.partners logic.now)) (draft_on self.old stretch.old words.now) (Enter-mark stage mark number) (entry_reply result) }
+        ensures step { Step (logic_of (L.Scale.model logic.now) (L.Logic.opposes logic.now) (L.Logic.partners logic.now)) (draft_on self.old stretch.old words.now) (enter_mark stage mark number) (entry_reply result) (draft_on self.new stretch.new words.now) }
+        ensures law { Tells (logic_of (L.Scale.model logic.now) (L.Logic.opposes logic.now) (L.Logic.partners logic.now)) (draft_on self.old stretch.old words.now) (enter_mark stage mark number) (entry_reply result) }
     {
         match self.mark_value(logic, stretch.len(), words.len(), stage, mark, number) {
             Ok(value) => {
@@ -193,8 +193,8 @@ impl Draft {
         words: &mut [u32],
         word: u32,
     ) -> Result<(), Refusal>
-        ensures step { Step (logic_of (L.Scale.model logic.now) (L.Logic.opposes logic.now) (L.Logic.partners logic.now)) (draft_on self.old stretch.now words.old) (Enter-line word) (entry_reply result) (draft_on self.new stretch.now words.new) }
-        ensures law { Tells (logic_of (L.Scale.model logic.now) (L.Logic.opposes logic.now) (L.Logic.partners logic.now)) (draft_on self.old stretch.now words.old) (Enter-line word) (entry_reply result) }
+        ensures step { Step (logic_of (L.Scale.model logic.now) (L.Logic.opposes logic.now) (L.Logic.partners logic.now)) (draft_on self.old stretch.now words.old) (enter_line word) (entry_reply result) (draft_on self.new stretch.now words.new) }
+        ensures law { Tells (logic_of (L.Scale.model logic.now) (L.Logic.opposes logic.now) (L.Logic.partners logic.now)) (draft_on self.old stretch.now words.old) (enter_line word) (entry_reply result) }
     {
         match self.new_line(logic, stretch.len(), words.len(), word) {
             Ok(_) => {
@@ -216,8 +216,8 @@ impl Draft {
         names: &[u8],
         formula: &[u8],
     ) -> Result<(), Refusal>
-        ensures step { Step (logic_of (L.Scale.model logic.now) (L.Logic.opposes logic.now) (L.Logic.partners logic.now)) (draft_on self.old stretch.now words.old) (Enter-text names.now formula.now) (entry_reply result) (draft_on self.new stretch.now words.new) }
-        ensures law { Tells (logic_of (L.Scale.model logic.now) (L.Logic.opposes logic.now) (L.Logic.partners logic.now)) (draft_on self.old stretch.now words.old) (Enter-text names.now formula.now) (entry_reply result) }
+        ensures step { Step (logic_of (L.Scale.model logic.now) (L.Logic.opposes logic.now) (L.Logic.partners logic.now)) (draft_on self.old stretch.now words.old) (enter_text names.now formula.now) (entry_reply result) (draft_on self.new stretch.now words.new) }
+        ensures law { Tells (logic_of (L.Scale.model logic.now) (L.Logic.opposes logic.now) (L.Logic.partners logic.now)) (draft_on self.old stretch.now words.old) (enter_text names.now formula.now) (entry_reply result) }
     {
         if let Some(why) = lent_refused(
             logic,
