@@ -2,8 +2,8 @@
 // the refusal at which it stopped, if it did.
 #![tactic(auto)]
 
-use anyhow::anyhow;
 use std::io::{Read, Write};
+use std::process::ExitCode;
 
 #[cfg(test)]
 mod tests;
@@ -21,11 +21,11 @@ fn run(rt: &HostRuntime) -> anyhow::Result<bool> {
     Ok(outcome.stop.is_none())
 }
 
-fn main(rt: HostRuntime) -> anyhow::Result<()> {
-    match run(&rt) {
-        Ok(true) => Ok(()),
+fn main(rt: HostRuntime) -> anyhow::Result<ExitCode> {
+    if run(&rt)? {
+        Ok(ExitCode::SUCCESS)
+    } else {
         // the last line on standard output says where and why
-        Ok(false) => Err(anyhow!("refused")),
-        Err(fault) => Err(fault),
+        Ok(ExitCode::FAILURE)
     }
 }
