@@ -85,7 +85,7 @@ needs X r rest v = ((X → ⊥) × (v ≡ refuse r)) ⊎ ((x : X) × rest x v)
 abbrev pub accepts : List Line → Verdict → Type 0
 accepts new v = v ≡ accept new
 
--- The checks of each call in their order, for n stages and a marks: `count` is the number of lines, and `In-order` says that the
+-- The checks of each call in their order, for n stages and a marks: `count` is the number of lines, and `InOrder` says that the
 -- line words are in order.
 module _ {V : Type 0} (m : Model V) (n a : ℕ) where
   abbrev pub Asked : ℕ → Type 0 → Call → Verdict → Type 0
