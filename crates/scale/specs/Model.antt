@@ -61,3 +61,7 @@ value_at m n = only_if (nat_lt n (named m)) (m.value n)
 -- the number of a pattern, if it is a value and has one
 abbrev pub number_of : {V : Type 0} → Model V → V → Option ℕ
 number_of m v = only_if (m.valid v && nat_le m.size most_values) (m.number v)
+
+-- What a type of logics says of each logic of the type: its model, the opposite of each value, and the partner of each cut.
+abbrev pub Meanings : Type 0 → Type 0 → Type 0
+Meanings S V = record { model : S → Model V; opposes : S → V → V; partners : S → ℕ → ℕ }

@@ -2,6 +2,10 @@
 use Rattle.std.specs.Prelude.{ℕ, Bool, ◌&&◌, Option, nat_lt}
 use Rattle.scale.specs.Model.{Model, named, only_if}
 
+-- The values with numbers i and j.
+abbrev pub numbered_values : {V : Type 0} → Model V → ℕ → ℕ → Option (V × V)
+numbered_values m i j = only_if (nat_lt i (named m) && nat_lt j (named m)) (m.value i, m.value j)
+
 abbrev pub meet_number : {V : Type 0} → Model V → ℕ → ℕ → Option ℕ
 meet_number m i j = only_if (nat_lt i (named m) && nat_lt j (named m)) (m.number (m.meet (m.value i) (m.value j)))
 

@@ -1,5 +1,5 @@
 -- The refusals of this layer: the number and the name of each.
-use Rattle.std.specs.Prelude.{ℕ, List, codes}
+use Rattle.std.specs.Prelude.{ℕ, List, ◌++◌, codes, decimal}
 use Rattle.scale.specs.declared.Refusal.{Refusal}
 use Rattle.scale.specs.declared.Refusal.TheVariants.{Logic as NoLogic, Order, Lattice, Distribution, Opposite}
 
@@ -16,3 +16,7 @@ refusal_name Order = codes "Order"
 refusal_name Lattice = codes "Lattice"
 refusal_name Distribution = codes "Distribution"
 refusal_name Opposite = codes "Opposite"
+
+-- How a refusal is shown: its number and its name.
+abbrev pub shown_refusal : Refusal → List ℕ
+shown_refusal r = decimal (refusal_number r) ++ (codes " " ++ refusal_name r)

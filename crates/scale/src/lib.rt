@@ -1,21 +1,23 @@
 // Scales (finite distributive lattices) and logics (scales with an opposite), as traits that hold their laws.
 #![tactic(auto)]
 
-ghost use Rattle.std.specs.Prelude.{◌≡◌, ℕ, ◌<◌, Bool, true, nat_lt};
+ghost use Rattle.std.specs.Prelude.{◌≡◌, ℕ, ◌<◌, Bool, true, Some, nat_lt};
 ghost use Rattle.scale.specs.Model.{Model, Is, read, only_if, cut_at, ceiling_at, value_at, number_of};
 ghost use Rattle.scale.specs.Laws.{Lawful, Opposed};
-ghost use Rattle.scale.specs.Refusals.{refusal_number, refusal_name};
+ghost use Rattle.scale.specs.Refusals.{refusal_number, refusal_name, shown_refusal};
+
+use std::fmt;
 
 pub mod numbers;
 
 // Why a logic was refused.
 #[derive(Clone, Copy, PartialEq, Eq, Debug)]
 pub enum Refusal {
-    Logic,
-    Order,
-    Lattice,
-    Distribution,
-    Opposite,
+    Logic = 10,
+    Order = 11,
+    Lattice = 12,
+    Distribution = 13,
+    Opposite = 14,
 }
 
 impl Refusal {
@@ -23,13 +25,7 @@ impl Refusal {
     pub fn number(self) -> u8
         ensures { result ≡ refusal_number self }
     {
-        match self {
-            Refusal::Logic => 10,
-            Refusal::Order => 11,
-            Refusal::Lattice => 12,
-            Refusal::Distribution => 13,
-            Refusal::Opposite => 14,
-        }
+        self as u8
     }
 
     // The name that reports give.
@@ -43,6 +39,17 @@ impl Refusal {
             Refusal::Distribution => "Distribution",
             Refusal::Opposite => "Opposite",
         }
+    }
+}
+
+// A refusal by its number and name, as `12 Lattice`.
+impl fmt::Display for Refusal {
+    ghost output = { λ r. Some (shown_refusal r) };
+
+    fn fmt<W: fmt::Write>(&self, f: &mut fmt::Formatter<W>) -> fmt::Result {
+        let number = self.number();
+        let name = self.name();
+        write!(f, "{number} {name}")
     }
 }
 

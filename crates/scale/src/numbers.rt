@@ -1,15 +1,21 @@
 // The operations by numbers, as tables, plan files and reports name values: none where a number names no value.
 ghost use Rattle.std.specs.Prelude.{◌≡◌};
-ghost use Rattle.scale.specs.Numbers.{meet_number, join_number, leq_number, opposite_number, cut_number, ceiling_number};
+ghost use Rattle.scale.specs.Numbers.{numbered_values, meet_number, join_number, leq_number, opposite_number, cut_number, ceiling_number};
 
 use crate::{Logic, Scale};
+
+// The values with numbers i and j.
+fn values<S: Scale>(scale: &S, i: u32, j: u32) -> Option<(S::Value, S::Value)>
+    ensures { result ≡ numbered_values (S.Scale.model scale.now) i j }
+{
+    Some((scale.value(i)?, scale.value(j)?))
+}
 
 // The number of the meet of values i and j.
 pub fn meet<S: Scale>(scale: &S, i: u32, j: u32) -> Option<u32>
     ensures { result ≡ meet_number (S.Scale.model scale.now) i j }
 {
-    let u = scale.value(i)?;
-    let v = scale.value(j)?;
+    let (u, v) = values(scale, i, j)?;
     scale.number(scale.meet_values(u, v))
 }
 
@@ -17,8 +23,7 @@ pub fn meet<S: Scale>(scale: &S, i: u32, j: u32) -> Option<u32>
 pub fn join<S: Scale>(scale: &S, i: u32, j: u32) -> Option<u32>
     ensures { result ≡ join_number (S.Scale.model scale.now) i j }
 {
-    let u = scale.value(i)?;
-    let v = scale.value(j)?;
+    let (u, v) = values(scale, i, j)?;
     scale.number(scale.join_values(u, v))
 }
 
@@ -26,8 +31,7 @@ pub fn join<S: Scale>(scale: &S, i: u32, j: u32) -> Option<u32>
 pub fn leq<S: Scale>(scale: &S, i: u32, j: u32) -> Option<bool>
     ensures { result ≡ leq_number (S.Scale.model scale.now) i j }
 {
-    let u = scale.value(i)?;
-    let v = scale.value(j)?;
+    let (u, v) = values(scale, i, j)?;
     Some(scale.leq_values(u, v))
 }
 
