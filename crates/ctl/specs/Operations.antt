@@ -1,6 +1,6 @@
 -- The operations of a logic on patterns: each pattern is read first, one that is no value as lowest.
 use Rattle.std.specs.Prelude.{◌≡◌, ℕ, ◌≤◌, Bool, true, cond}
-use Rattle.scale.specs.Model.{Model, read, most_values}
+use Rattle.scale.specs.Model.{Model, Meanings, read, most_values}
 
 -- The values are the patterns of `V` that are `valid`; the cuts have the numbers below `cuts`.
 pub record Ops (V : Type 0) : Type 0 where
@@ -29,6 +29,10 @@ ops_of m opposite partner = record {
   cut = m.cut;
   partner = partner;
 }
+
+-- Those of the logic s of a type.
+abbrev pub ops_at : {S V : Type 0} → Meanings S V → S → Ops V
+ops_at l s = ops_of (l.model s) (l.opposes s) (l.partners s)
 
 -- A scale of at most 4,096 values: only these have cuts.
 abbrev pub Small : {V : Type 0} → Model V → Type 0

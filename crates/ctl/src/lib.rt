@@ -3,7 +3,7 @@
 
 ghost use Rattle.std.specs.Prelude.{◌≡◌, true, nat_le};
 ghost use Rattle.scale.specs.Model.{most_values};
-ghost use Rattle.ctl.specs.Operations.{ops_of};
+ghost use Rattle.ctl.specs.Operations.{ops_at};
 ghost use Rattle.ctl.specs.Theorems.{Meaning};
 
 use scale::Logic;
@@ -19,7 +19,7 @@ pub enum Paths {
 // There every formula has one value, and its readings at the cuts tell that value.
 pub fn has_readings<L: Logic>(logic: &L) -> bool
     ensures answer { result ≡ nat_le (L.Scale.model logic.now).size most_values }
-    ensures meaning { result ≡ true → Meaning (ops_of (L.Scale.model logic.now) (L.Logic.opposes logic.now) (L.Logic.partners logic.now)) }
+    ensures meaning { result ≡ true → Meaning (ops_at L.Logic logic.now) }
 {
     logic.size() <= 4096
 }

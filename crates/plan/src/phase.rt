@@ -1,6 +1,6 @@
 // What a word of a plan does in a phase of its sheet.
 ghost use Rattle.std.specs.Prelude.{◌≡◌, [], ◌∷◌, length};
-ghost use Rattle.sheet.specs.Logics.{logic_of};
+ghost use Rattle.sheet.specs.Logics.{logic_at};
 ghost use Rattle.sheet.specs.Sheet.{Step, drafting as in_draft, settled as in_settled, settle as Settle, read_at, draft_on, settled_on, entry_reply};
 ghost use Rattle.plan.specs.Calls.{entry_call, lent_values};
 ghost use Rattle.plan.specs.Phases.{ReadsNumber, Leads, WordDone};
@@ -38,7 +38,7 @@ fn enter<L: Logic>(
     lines: &mut [u32],
     entry: Entry,
 ) -> Result<(), sheet::Refusal>
-    ensures { Step (logic_of (L.Scale.model logic.now) (L.Logic.opposes logic.now) (L.Logic.partners logic.now)) (draft_on draft.old stretch.old lines.old) (entry_call entry) (entry_reply result) (draft_on draft.new stretch.new lines.new) }
+    ensures { Step (logic_at L.Logic logic.now) (draft_on draft.old stretch.old lines.old) (entry_call entry) (entry_reply result) (draft_on draft.new stretch.new lines.new) }
 {
     match entry {
         Entry::Arrow { from, to, number } => draft.arrow(logic, stretch, lines, from, to, number),
@@ -60,7 +60,7 @@ fn read_number<L: Logic>(
     line: u8,
     stage: u8,
 ) -> Result<u32, sheet::Refusal>
-    ensures { ReadsNumber (logic_of (L.Scale.model logic.now) (L.Logic.opposes logic.now) (L.Logic.partners logic.now)) (settled_on settled.now stretch.now lines.now) line stage result }
+    ensures { ReadsNumber (logic_at L.Logic logic.now) (settled_on settled.now stretch.now lines.now) line stage result }
 {
     let value = settled.read(logic, stretch, lines, line, stage)?;
     match logic.number(value) {
@@ -79,7 +79,7 @@ fn enter_draft<L: Logic>(
 ) -> Result<Phase, Halt>
     requires long { length stretch.old ≡ lent_values }
     requires wide { length lines.old ≡ 64 }
-    ensures { Leads (logic_of (L.Scale.model logic.now) (L.Logic.opposes logic.now) (L.Logic.partners logic.now)) (draft_on draft stretch.old lines.old) (entry_call entry ∷ []) in_draft [] result stretch.new lines.new [] }
+    ensures { Leads (logic_at L.Logic logic.now) (draft_on draft stretch.old lines.old) (entry_call entry ∷ []) in_draft [] result stretch.new lines.new [] }
 {
     match enter(&mut draft, logic, stretch, lines, entry) {
         Ok(()) => Ok(Phase::Draft(draft)),
@@ -99,7 +99,7 @@ fn ask_settled<L: Logic>(
 ) -> Result<Phase, Halt>
     requires long { length stretch.now ≡ lent_values }
     requires wide { length lines.now ≡ 64 }
-    ensures { Leads (logic_of (L.Scale.model logic.now) (L.Logic.opposes logic.now) (L.Logic.partners logic.now)) (settled_on settled stretch.now lines.now) (read_at line stage ∷ []) in_settled outputs.old.items result stretch.now lines.now outputs.new.items }
+    ensures { Leads (logic_at L.Logic logic.now) (settled_on settled stretch.now lines.now) (read_at line stage ∷ []) in_settled outputs.old.items result stretch.now lines.now outputs.new.items }
 {
     let number = match read_number(&settled, logic, stretch, lines, line, stage) {
         Ok(number) => number,
@@ -127,7 +127,7 @@ fn ask_draft<L: Logic>(
 ) -> Result<Phase, Halt>
     requires long { length stretch.old ≡ lent_values }
     requires wide { length lines.now ≡ 64 }
-    ensures { Leads (logic_of (L.Scale.model logic.now) (L.Logic.opposes logic.now) (L.Logic.partners logic.now)) (draft_on draft stretch.old lines.now) (Settle ∷ read_at line stage ∷ []) in_settled outputs.old.items result stretch.new lines.now outputs.new.items }
+    ensures { Leads (logic_at L.Logic logic.now) (draft_on draft stretch.old lines.now) (Settle ∷ read_at line stage ∷ []) in_settled outputs.old.items result stretch.new lines.now outputs.new.items }
 {
     match draft.settle(logic, stretch, lines) {
         Ok((settled, rounds)) => match outputs.push(Output::Rounds(rounds)) {
@@ -150,7 +150,7 @@ impl Phase {
     ) -> Result<Phase, Halt>
         requires long { length stretch.old ≡ lent_values }
         requires wide { length lines.old ≡ 64 }
-        ensures { WordDone (logic_of (L.Scale.model logic.now) (L.Logic.opposes logic.now) (L.Logic.partners logic.now)) self stretch.old lines.old kind outputs.old.items result stretch.new lines.new outputs.new.items }
+        ensures { WordDone (logic_at L.Logic logic.now) self stretch.old lines.old kind outputs.old.items result stretch.new lines.new outputs.new.items }
     {
         match (self, kind) {
             (Phase::Draft(draft), Kind::Enter(entry)) => {

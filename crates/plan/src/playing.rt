@@ -1,6 +1,6 @@
 // A plan over one logic, from its size word to its end.
 ghost use Rattle.std.specs.Prelude.{◌≡◌, ◌+◌, ◌≤◌, [], length, IfOk, vec_len};
-ghost use Rattle.sheet.specs.Logics.{logic_of};
+ghost use Rattle.sheet.specs.Logics.{logic_at};
 ghost use Rattle.sheet.specs.Sheet.{draft_on};
 ghost use Rattle.plan.specs.Calls.{lent_values, word_at, call_at, SheetPlan};
 ghost use Rattle.plan.specs.Phases.{Plays, Ended, Halted};
@@ -74,7 +74,7 @@ fn play<L: Logic>(
     requires long { length stretch.old ≡ lent_values }
     requires wide { length lines.old ≡ 64 }
     requires few { first + length plan.now ≤ 8192 }
-    ensures { IfOk result (λ stop. Plays (logic_of (L.Scale.model logic.now) (L.Logic.opposes logic.now) (L.Logic.partners logic.now)) (draft_on draft stretch.old lines.old) more first plan.now outputs.old.items stop outputs.new.items) }
+    ensures { IfOk result (λ stop. Plays (logic_at L.Logic logic.now) (draft_on draft stretch.old lines.old) more first plan.now outputs.old.items stop outputs.new.items) }
 {
     let mut words = plan;
     let mut phase = Phase::Draft(draft);
@@ -104,7 +104,7 @@ fn play_sized<L: Logic>(
     requires wide { length lines.old ≡ 64 }
     requires few { at + length words.now ≤ 8192 }
     requires fresh { outputs.old.items ≡ [] }
-    ensures { IfOk result (λ stop. SheetPlan (logic_of (L.Scale.model logic.now) (L.Logic.opposes logic.now) (L.Logic.partners logic.now)) more at words.now outputs.new.items stop) }
+    ensures { IfOk result (λ stop. SheetPlan (logic_at L.Logic logic.now) more at words.now outputs.new.items stop) }
 {
     let [word, rest @ ..] = words else {
         return Ok(word_at(at));
@@ -138,7 +138,7 @@ pub(crate) fn run_sheet<L: Logic>(
     more: bool,
 ) -> Result<Outcome, AllocError>
     requires few { at + length words.now ≤ 8192 }
-    ensures { IfOk result (λ o. SheetPlan (logic_of (L.Scale.model logic.now) (L.Logic.opposes logic.now) (L.Logic.partners logic.now)) more at words.now o.outputs.items o.stop) }
+    ensures { IfOk result (λ o. SheetPlan (logic_at L.Logic logic.now) more at words.now o.outputs.items o.stop) }
 {
     let mut stretch = largest_stretch(heap, logic.lowest())?;
     let mut lines = [0u32; 64];

@@ -2,7 +2,7 @@
 #![tactic(auto)]
 
 ghost use Rattle.std.specs.Prelude.{◌≡◌, true, length, is_some, Some, None};
-ghost use Rattle.ctl.specs.Operations.{ops_of, Small};
+ghost use Rattle.ctl.specs.Operations.{ops_at, Small};
 ghost use Rattle.steps.specs.Steps.{laid};
 ghost use Rattle.rounds.specs.Settled.{settleable, Prepared, Settled};
 
@@ -27,7 +27,7 @@ fn prepare<L: Logic>(
 ) -> (Source, usize)
     requires small { Small (L.Scale.model logic.now) }
     requires placed { laid n a step to work (length s.old) ≡ true }
-    ensures { Prepared (ops_of (L.Scale.model logic.now) (L.Logic.opposes logic.now) (L.Logic.partners logic.now)) n a step to work s.old result.0 result.1 s.new }
+    ensures { Prepared (ops_at L.Logic logic.now) n a step to work s.old result.0 result.1 s.new }
 {
     match step {
         Step::Mark(m) => (Source::Mark(m, a), 0),
@@ -66,7 +66,7 @@ pub fn settle_step<L: Logic>(
     work: usize,
 ) -> Option<usize>
     ensures answer { is_some result ≡ settleable (L.Scale.model logic.now) n a step to work (length stretch.old) }
-    ensures memory { elim result [ Some k ↦ Settled (ops_of (L.Scale.model logic.now) (L.Logic.opposes logic.now) (L.Logic.partners logic.now)) n a step to work stretch.old k stretch.new | None ↦ stretch.new ≡ stretch.old ] }
+    ensures memory { elim result [ Some k ↦ Settled (ops_at L.Logic logic.now) n a step to work stretch.old k stretch.new | None ↦ stretch.new ≡ stretch.old ] }
 {
     if !has_readings(logic) || !step.is_laid(n, a, to, work, stretch.len()) {
         return None;

@@ -1,6 +1,6 @@
 // Rows of a stretch, written one from another.
 ghost use Rattle.std.specs.Prelude.{◌≡◌, ℕ, ◌+◌, ◌*◌, ◌<◌, ◌≤◌, Bool, true, false, length};
-ghost use Rattle.ctl.specs.Operations.{ops_of, Valid};
+ghost use Rattle.ctl.specs.Operations.{ops_at, Valid};
 ghost use Rattle.rounds.specs.declared.rows.Source.TheVariants.{Round};
 ghost use Rattle.steps.specs.Stretch.{HoldsValues, SameRows, Tells};
 ghost use Rattle.steps.specs.Steps.{side_of};
@@ -29,7 +29,7 @@ pub(crate) enum Source {
 fn side_at<L: Logic>(logic: &L, s: &[L::Value], n: usize, side: Side, i: usize) -> L::Value
     requires stage { i < n }
     requires rows { SideRows (λ x. x + n ≤ length s.now) side }
-    ensures { result ≡ side_of (ops_of (L.Scale.model logic.now) (L.Logic.opposes logic.now) (L.Logic.partners logic.now)) s.now side i }
+    ensures { result ≡ side_of (ops_at L.Logic logic.now) s.now side i }
 {
     match side {
         Side::Bottom => logic.lowest(),
@@ -44,7 +44,7 @@ fn mark_at<L: Logic>(logic: &L, s: &[L::Value], n: usize, m: usize, a: usize, i:
     requires stage { i < n }
     requires mark { m < a }
     requires inside { n * n + n * a ≤ length s.now }
-    ensures { result ≡ mark_at (ops_of (L.Scale.model logic.now) (L.Logic.opposes logic.now) (L.Logic.partners logic.now)) n s.now m a i }
+    ensures { result ≡ mark_at (ops_at L.Logic logic.now) n s.now m a i }
 {
     logic.reading(s[n * n + (i * a + m)])
 }
@@ -53,8 +53,8 @@ fn mark_at<L: Logic>(logic: &L, s: &[L::Value], n: usize, m: usize, a: usize, i:
 fn ex_at<L: Logic>(logic: &L, s: &[L::Value], n: usize, place: usize, i: usize) -> L::Value
     requires arrows { i * n + n ≤ length s.now }
     requires inside { place + n ≤ length s.now }
-    requires values { HoldsValues (ops_of (L.Scale.model logic.now) (L.Logic.opposes logic.now) (L.Logic.partners logic.now)) n s.now place }
-    ensures { result ≡ ex_at (ops_of (L.Scale.model logic.now) (L.Logic.opposes logic.now) (L.Logic.partners logic.now)) n s.now place i }
+    requires values { HoldsValues (ops_at L.Logic logic.now) n s.now place }
+    ensures { result ≡ ex_at (ops_at L.Logic logic.now) n s.now place i }
 {
     let mut sum = logic.lowest();
     for t in 0..n {
@@ -78,8 +78,8 @@ fn next_at<L: Logic>(
 ) -> L::Value
     requires arrows { i * n + n ≤ length s.now }
     requires inside { (z + n ≤ length s.now) × (turned + n ≤ length s.now) }
-    requires values { NextRows (HoldsValues (ops_of (L.Scale.model logic.now) (L.Logic.opposes logic.now) (L.Logic.partners logic.now)) n s.now) paths z turned }
-    ensures { result ≡ next_at (ops_of (L.Scale.model logic.now) (L.Logic.opposes logic.now) (L.Logic.partners logic.now)) n s.now paths z turned i }
+    requires values { NextRows (HoldsValues (ops_at L.Logic logic.now) n s.now) paths z turned }
+    ensures { result ≡ next_at (ops_at L.Logic logic.now) n s.now paths z turned i }
 {
     match paths {
         Paths::One => ex_at(logic, s, n, z, i),
@@ -102,8 +102,8 @@ fn round_at<L: Logic>(
     i: usize,
 ) -> L::Value
     requires stage { i < n }
-    requires reads { Readable (ops_of (L.Scale.model logic.now) (L.Logic.opposes logic.now) (L.Logic.partners logic.now)) n s.now (Round until z turned) }
-    ensures { result ≡ source_of (ops_of (L.Scale.model logic.now) (L.Logic.opposes logic.now) (L.Logic.partners logic.now)) n s.now (Round until z turned) i }
+    requires reads { Readable (ops_at L.Logic logic.now) n s.now (Round until z turned) }
+    ensures { result ≡ source_of (ops_at L.Logic logic.now) n s.now (Round until z turned) i }
 {
     let Until { paths, before, end } = until;
     let next = next_at(logic, s, n, paths, z, turned, i);
@@ -115,8 +115,8 @@ fn round_at<L: Logic>(
 // The entry at stage i of a row that is written from a source.
 fn entry_at<L: Logic>(logic: &L, s: &[L::Value], n: usize, source: Source, i: usize) -> L::Value
     requires stage { i < n }
-    requires reads { Readable (ops_of (L.Scale.model logic.now) (L.Logic.opposes logic.now) (L.Logic.partners logic.now)) n s.now source }
-    ensures { result ≡ source_of (ops_of (L.Scale.model logic.now) (L.Logic.opposes logic.now) (L.Logic.partners logic.now)) n s.now source i }
+    requires reads { Readable (ops_at L.Logic logic.now) n s.now source }
+    ensures { result ≡ source_of (ops_at L.Logic logic.now) n s.now source i }
 {
     match source {
         Source::Mark(m, a) => mark_at(logic, s, n, m, a, i),
@@ -145,8 +145,8 @@ pub(crate) fn write_row<L: Logic>(
     source: Source,
     place: usize,
 )
-    requires { Writable (ops_of (L.Scale.model logic.now) (L.Logic.opposes logic.now) (L.Logic.partners logic.now)) n s.old source place }
-    ensures { Written (ops_of (L.Scale.model logic.now) (L.Logic.opposes logic.now) (L.Logic.partners logic.now)) n source place s.old s.new }
+    requires { Writable (ops_at L.Logic logic.now) n s.old source place }
+    ensures { Written (ops_at L.Logic logic.now) n source place s.old s.new }
 {
     for i in 0..n {
         let v = entry_at(logic, s, n, source, i);
@@ -156,8 +156,8 @@ pub(crate) fn write_row<L: Logic>(
 
 // Whether two values are equal: each is at or below the other.
 fn equal<L: Logic>(logic: &L, u: L::Value, v: L::Value) -> bool
-    requires first { Valid (ops_of (L.Scale.model logic.now) (L.Logic.opposes logic.now) (L.Logic.partners logic.now)) u }
-    requires second { Valid (ops_of (L.Scale.model logic.now) (L.Logic.opposes logic.now) (L.Logic.partners logic.now)) v }
+    requires first { Valid (ops_at L.Logic logic.now) u }
+    requires second { Valid (ops_at L.Logic logic.now) v }
     ensures { Tells result (u ≡ v) }
 {
     logic.leq_values(u, v) && logic.leq_values(v, u)
@@ -166,9 +166,9 @@ fn equal<L: Logic>(logic: &L, u: L::Value, v: L::Value) -> bool
 // Whether two rows of values are the same.
 pub(crate) fn same_rows<L: Logic>(logic: &L, s: &[L::Value], n: usize, x: usize, y: usize) -> bool
     requires inside { (x + n ≤ length s.now) × (y + n ≤ length s.now) }
-    requires first { HoldsValues (ops_of (L.Scale.model logic.now) (L.Logic.opposes logic.now) (L.Logic.partners logic.now)) n s.now x }
-    requires second { HoldsValues (ops_of (L.Scale.model logic.now) (L.Logic.opposes logic.now) (L.Logic.partners logic.now)) n s.now y }
-    ensures { Tells result (SameRows (ops_of (L.Scale.model logic.now) (L.Logic.opposes logic.now) (L.Logic.partners logic.now)) n s.now x y) }
+    requires first { HoldsValues (ops_at L.Logic logic.now) n s.now x }
+    requires second { HoldsValues (ops_at L.Logic logic.now) n s.now y }
+    ensures { Tells result (SameRows (ops_at L.Logic logic.now) n s.now x y) }
 {
     for i in 0..n {
         if !equal(logic, s[x + i], s[y + i]) {

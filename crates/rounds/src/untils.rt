@@ -1,6 +1,6 @@
 // An until, settled by rounds in the two work rows.
 ghost use Rattle.std.specs.Prelude.{◌≡◌, true, length};
-ghost use Rattle.ctl.specs.Operations.{ops_of, Small};
+ghost use Rattle.ctl.specs.Operations.{ops_at, Small};
 ghost use Rattle.steps.specs.declared.Side.TheVariants.{Not as Opposite};
 ghost use Rattle.steps.specs.declared.Step.TheVariants.{Until as Settling};
 ghost use Rattle.rounds.specs.declared.rows.Source.TheVariants.{Copied};
@@ -23,8 +23,8 @@ fn turn_row<L: Logic>(
     z: usize,
     turned: usize,
 )
-    requires { Writable (ops_of (L.Scale.model logic.now) (L.Logic.opposes logic.now) (L.Logic.partners logic.now)) n s.old (Copied (Opposite z)) turned }
-    ensures { Turned (ops_of (L.Scale.model logic.now) (L.Logic.opposes logic.now) (L.Logic.partners logic.now)) n paths z turned s.old s.new }
+    requires { Writable (ops_at L.Logic logic.now) n s.old (Copied (Opposite z)) turned }
+    ensures { Turned (ops_at L.Logic logic.now) n paths z turned s.old s.new }
 {
     match paths {
         Paths::One => {}
@@ -42,8 +42,8 @@ fn run_round<L: Logic>(
     turned: usize,
 )
     requires placed { laid n 0 (Settling until) turned z (length s.old) ≡ true }
-    requires values { HoldsValues (ops_of (L.Scale.model logic.now) (L.Logic.opposes logic.now) (L.Logic.partners logic.now)) n s.old z }
-    ensures { Rounded (ops_of (L.Scale.model logic.now) (L.Logic.opposes logic.now) (L.Logic.partners logic.now)) n until z turned s.old s.new }
+    requires values { HoldsValues (ops_at L.Logic logic.now) n s.old z }
+    ensures { Rounded (ops_at L.Logic logic.now) n until z turned s.old s.new }
 {
     let paths = until.paths;
     turn_row(logic, s, n, paths, z, turned);
@@ -61,7 +61,7 @@ pub(crate) fn settle_until<L: Logic>(
 ) -> usize
     requires small { Small (L.Scale.model logic.now) }
     requires placed { laid n 0 (Settling until) turned z (length s.old) ≡ true }
-    ensures { Rested (ops_of (L.Scale.model logic.now) (L.Logic.opposes logic.now) (L.Logic.partners logic.now)) n until z turned s.old result s.new }
+    ensures { Rested (ops_at L.Logic logic.now) n until z turned s.old result s.new }
 {
     write_row(logic, s, n, Source::Copied(Side::Bottom), z);
     let mut count: usize = 0;

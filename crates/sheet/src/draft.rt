@@ -3,7 +3,7 @@ ghost use Rattle.std.specs.Prelude.{◌≡◌, ℕ, ◌≤◌, List, length, rep
 ghost use Rattle.lines.specs.declared.Line.{Line as Said};
 ghost use Rattle.formula.specs.Tells.{held};
 ghost use Rattle.sheet.specs.Sheet.{Opens, Step, arrow as enter_arrow, mark as enter_mark, line as enter_line, text as enter_text, settle as Settle, Judged, draft_on, entry_reply, settle_reply, settle_sheet};
-ghost use Rattle.sheet.specs.Logics.{logic_of};
+ghost use Rattle.sheet.specs.Logics.{logic_at};
 ghost use Rattle.sheet.specs.Refusals.{text_refusal};
 ghost use Rattle.sheet.specs.Runs.{Law, Tells};
 ghost use Rattle.sheet.specs.Lines.{Says};
@@ -46,8 +46,8 @@ impl Draft {
         stages: u8,
         marks: u8,
     ) -> Result<Draft, Refusal>
-        ensures opens { Opens (logic_of (L.Scale.model logic.now) (L.Logic.opposes logic.now) (L.Logic.partners logic.now)) stages marks stretch.old words.old result stretch.new words.new }
-        ensures law { Law (logic_of (L.Scale.model logic.now) (L.Logic.opposes logic.now) (L.Logic.partners logic.now)) }
+        ensures opens { Opens (logic_at L.Logic logic.now) stages marks stretch.old words.old result stretch.new words.new }
+        ensures law { Law (logic_at L.Logic logic.now) }
     {
         if let Some(why) = open_refused(logic, stages, marks, stretch.len(), words.len()) {
             return Err(why);
@@ -98,8 +98,8 @@ impl Draft {
         to: u8,
         number: u32,
     ) -> Result<(), Refusal>
-        ensures step { Step (logic_of (L.Scale.model logic.now) (L.Logic.opposes logic.now) (L.Logic.partners logic.now)) (draft_on self.old stretch.old words.now) (enter_arrow from to number) (entry_reply result) (draft_on self.new stretch.new words.now) }
-        ensures law { Tells (logic_of (L.Scale.model logic.now) (L.Logic.opposes logic.now) (L.Logic.partners logic.now)) (draft_on self.old stretch.old words.now) (enter_arrow from to number) (entry_reply result) }
+        ensures step { Step (logic_at L.Logic logic.now) (draft_on self.old stretch.old words.now) (enter_arrow from to number) (entry_reply result) (draft_on self.new stretch.new words.now) }
+        ensures law { Tells (logic_at L.Logic logic.now) (draft_on self.old stretch.old words.now) (enter_arrow from to number) (entry_reply result) }
     {
         match self.arrow_value(logic, stretch.len(), words.len(), from, to, number) {
             Ok(value) => {
@@ -148,8 +148,8 @@ impl Draft {
         mark: u8,
         number: u32,
     ) -> Result<(), Refusal>
-        ensures step { Step (logic_of (L.Scale.model logic.now) (L.Logic.opposes logic.now) (L.Logic.partners logic.now)) (draft_on self.old stretch.old words.now) (enter_mark stage mark number) (entry_reply result) (draft_on self.new stretch.new words.now) }
-        ensures law { Tells (logic_of (L.Scale.model logic.now) (L.Logic.opposes logic.now) (L.Logic.partners logic.now)) (draft_on self.old stretch.old words.now) (enter_mark stage mark number) (entry_reply result) }
+        ensures step { Step (logic_at L.Logic logic.now) (draft_on self.old stretch.old words.now) (enter_mark stage mark number) (entry_reply result) (draft_on self.new stretch.new words.now) }
+        ensures law { Tells (logic_at L.Logic logic.now) (draft_on self.old stretch.old words.now) (enter_mark stage mark number) (entry_reply result) }
     {
         match self.mark_value(logic, stretch.len(), words.len(), stage, mark, number) {
             Ok(value) => {
@@ -193,8 +193,8 @@ impl Draft {
         words: &mut [u32],
         word: u32,
     ) -> Result<(), Refusal>
-        ensures step { Step (logic_of (L.Scale.model logic.now) (L.Logic.opposes logic.now) (L.Logic.partners logic.now)) (draft_on self.old stretch.now words.old) (enter_line word) (entry_reply result) (draft_on self.new stretch.now words.new) }
-        ensures law { Tells (logic_of (L.Scale.model logic.now) (L.Logic.opposes logic.now) (L.Logic.partners logic.now)) (draft_on self.old stretch.now words.old) (enter_line word) (entry_reply result) }
+        ensures step { Step (logic_at L.Logic logic.now) (draft_on self.old stretch.now words.old) (enter_line word) (entry_reply result) (draft_on self.new stretch.now words.new) }
+        ensures law { Tells (logic_at L.Logic logic.now) (draft_on self.old stretch.now words.old) (enter_line word) (entry_reply result) }
     {
         match self.new_line(logic, stretch.len(), words.len(), word) {
             Ok(_) => {
@@ -216,8 +216,8 @@ impl Draft {
         names: &[u8],
         formula: &[u8],
     ) -> Result<(), Refusal>
-        ensures step { Step (logic_of (L.Scale.model logic.now) (L.Logic.opposes logic.now) (L.Logic.partners logic.now)) (draft_on self.old stretch.now words.old) (enter_text names.now formula.now) (entry_reply result) (draft_on self.new stretch.now words.new) }
-        ensures law { Tells (logic_of (L.Scale.model logic.now) (L.Logic.opposes logic.now) (L.Logic.partners logic.now)) (draft_on self.old stretch.now words.old) (enter_text names.now formula.now) (entry_reply result) }
+        ensures step { Step (logic_at L.Logic logic.now) (draft_on self.old stretch.now words.old) (enter_text names.now formula.now) (entry_reply result) (draft_on self.new stretch.now words.new) }
+        ensures law { Tells (logic_at L.Logic logic.now) (draft_on self.old stretch.now words.old) (enter_text names.now formula.now) (entry_reply result) }
     {
         if let Some(why) = lent_refused(
             logic,
@@ -257,8 +257,8 @@ impl Draft {
         stretch: &mut [L::Value],
         words: &[u32],
     ) -> Result<(Settled, u8), (Draft, Refusal)>
-        ensures step { Step (logic_of (L.Scale.model logic.now) (L.Logic.opposes logic.now) (L.Logic.partners logic.now)) (draft_on self stretch.old words.now) Settle (settle_reply result) (settle_sheet result stretch.new words.now) }
-        ensures law { Tells (logic_of (L.Scale.model logic.now) (L.Logic.opposes logic.now) (L.Logic.partners logic.now)) (draft_on self stretch.old words.now) Settle (settle_reply result) }
+        ensures step { Step (logic_at L.Logic logic.now) (draft_on self stretch.old words.now) Settle (settle_reply result) (settle_sheet result stretch.new words.now) }
+        ensures law { Tells (logic_at L.Logic logic.now) (draft_on self stretch.old words.now) Settle (settle_reply result) }
     {
         if let Some(why) = self.settle_refused(logic, stretch.len(), words) {
             return Err((self, why));

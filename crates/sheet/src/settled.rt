@@ -1,7 +1,7 @@
 // A settled sheet: it gives readings, and is reopened.
 ghost use Rattle.std.specs.Prelude.{◌≡◌, length};
 ghost use Rattle.formula.specs.Tells.{held};
-ghost use Rattle.sheet.specs.Logics.{logic_of};
+ghost use Rattle.sheet.specs.Logics.{logic_at};
 ghost use Rattle.sheet.specs.Runs.{Tells};
 ghost use Rattle.sheet.specs.Sheet.{Judged, Step, read_at, reopen as Reopen, done, settled_on, draft_on, read_reply};
 ghost use Rattle.sheet.specs.Verdicts.{verdict_of};
@@ -43,8 +43,8 @@ impl Settled {
         line: u8,
         stage: u8,
     ) -> Result<L::Value, Refusal>
-        ensures step { Step (logic_of (L.Scale.model logic.now) (L.Logic.opposes logic.now) (L.Logic.partners logic.now)) (settled_on self.now stretch.now words.now) (read_at line stage) (read_reply result) (settled_on self.now stretch.now words.now) }
-        ensures law { Tells (logic_of (L.Scale.model logic.now) (L.Logic.opposes logic.now) (L.Logic.partners logic.now)) (settled_on self.now stretch.now words.now) (read_at line stage) (read_reply result) }
+        ensures step { Step (logic_at L.Logic logic.now) (settled_on self.now stretch.now words.now) (read_at line stage) (read_reply result) (settled_on self.now stretch.now words.now) }
+        ensures law { Tells (logic_at L.Logic logic.now) (settled_on self.now stretch.now words.now) (read_at line stage) (read_reply result) }
     {
         if let Some(why) = self.read_refused(logic, stretch.len(), words.len(), line, stage) {
             return Err(why);
@@ -56,8 +56,8 @@ impl Settled {
 
     // Turns a settled sheet back into a draft, with all its entries.
     pub fn reopen<L: Logic>(self, logic: &L, stretch: &[L::Value], words: &[u32]) -> Draft
-        ensures step { Step (logic_of (L.Scale.model logic.now) (L.Logic.opposes logic.now) (L.Logic.partners logic.now)) (settled_on self stretch.now words.now) Reopen done (draft_on result stretch.now words.now) }
-        ensures law { Tells (logic_of (L.Scale.model logic.now) (L.Logic.opposes logic.now) (L.Logic.partners logic.now)) (settled_on self stretch.now words.now) Reopen done }
+        ensures step { Step (logic_at L.Logic logic.now) (settled_on self stretch.now words.now) Reopen done (draft_on result stretch.now words.now) }
+        ensures law { Tells (logic_at L.Logic logic.now) (settled_on self stretch.now words.now) Reopen done }
     {
         Draft {
             stages: self.stages,

@@ -3,7 +3,7 @@ ghost use Rattle.std.specs.Prelude.{◌≡◌, ℕ, ◌<◌, ◌≤◌, List, le
 ghost use Rattle.scale.specs.Model.{most_values};
 ghost use Rattle.lines.specs.Word.{WellFormed};
 ghost use Rattle.sheet.specs.Layout.{room, answer_row};
-ghost use Rattle.sheet.specs.Logics.{logic_of};
+ghost use Rattle.sheet.specs.Logics.{logic_at};
 ghost use Rattle.sheet.specs.Filling.{one_step, two_step, step_of, LineSettled, Fills};
 
 use ctl::Paths;
@@ -93,7 +93,7 @@ fn settle_line<L: Logic>(
     requires small { (L.Scale.model logic.now).size ≤ most_values }
     requires roomy { room stages marks ≤ length stretch.old }
     requires few { k < 64 }
-    ensures { LineSettled (logic_of (L.Scale.model logic.now) (L.Logic.opposes logic.now) (L.Logic.partners logic.now)) stages marks k word stretch.old result stretch.new }
+    ensures { LineSettled (logic_at L.Logic logic.now) stages marks k word stretch.old result stretch.new }
 {
     let Ok(line) = Line::read(word, k, marks) else {
         return 0;
@@ -128,7 +128,7 @@ pub(crate) fn settle_lines<L: Logic>(
     requires roomy { room stages marks ≤ length stretch.old }
     requires few { count ≤ 64 }
     requires wordy { 64 ≤ length words.now }
-    ensures { Fills (logic_of (L.Scale.model logic.now) (L.Logic.opposes logic.now) (L.Logic.partners logic.now)) stages marks count words.now stretch.old count result stretch.new }
+    ensures { Fills (logic_at L.Logic logic.now) stages marks count words.now stretch.old count result stretch.new }
 {
     let mut most: u8 = 0;
     for k in 0..count {
