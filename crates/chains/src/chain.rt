@@ -4,46 +4,41 @@ ghost use Rattle.chains.specs.Ranges.{within};
 ghost use Rattle.chains.specs.Chains.{chain as chain_model, chain_opposite, chain_partner};
 ghost use Rattle.chains.specs.ChainLaws.{chain_lawful, chain_opposed};
 
+use crate::within::Within;
 use scale::{Logic, Refusal, Scale};
 
 // A chain of n values, from 0 upward.
 #[derive(Clone, Copy)]
 pub struct Chain {
-    n: u8,
-    ghost least: { 2 ≤ n },
-    ghost most: { n ≤ 64 },
+    n: Within<2, 64>,
 }
 
 impl Chain {
     // The chain of n values, from 2 to 64.
     pub fn new(n: u8) -> Result<Chain, Refusal>
-        ensures { elim result [ Ok c ↦ (within 2 64 n ≡ true) × (c.n ≡ n) | Err e ↦ (within 2 64 n ≡ false) × (refusal_number e ≡ 10) ] }
+        ensures { elim result [ Ok made ↦ (within 2 64 n ≡ true) × (made.n.number ≡ n) | Err e ↦ (within 2 64 n ≡ false) × (refusal_number e ≡ 10) ] }
     {
-        if n >= 2 && n <= 64 {
-            Ok(Chain { n })
-        } else {
-            Err(Refusal::Logic)
-        }
+        Ok(Chain { n: Within::new(n)? })
     }
 }
 
 impl Scale for Chain {
     type Value = u8;
 
-    ghost model = { λ s. chain_model s.n };
+    ghost model = { λ s. chain_model s.n.number };
 
-    ghost lawful = { λ s. chain_lawful s.n s.least s.most };
+    ghost lawful = { λ s. chain_lawful s.n.number s.n.least s.n.most };
 
     fn lowest(&self) -> u8 {
         0
     }
 
     fn highest(&self) -> u8 {
-        self.n - 1
+        self.n.number - 1
     }
 
     fn is_value(&self, v: u8) -> bool {
-        v < self.n
+        v < self.n.number
     }
 
     fn meet_values(&self, u: u8, v: u8) -> u8 {
@@ -59,7 +54,7 @@ impl Scale for Chain {
     }
 
     fn cut_count(&self) -> u32 {
-        self.n as u32 - 1
+        self.n.number as u32 - 1
     }
 
     fn cut(&self, j: u32) -> Option<u8> {
@@ -79,7 +74,7 @@ impl Scale for Chain {
     }
 
     fn size(&self) -> u32 {
-        u32::from(self.n)
+        u32::from(self.n.number)
     }
 
     fn value(&self, n: u32) -> Option<u8> {
@@ -96,11 +91,11 @@ impl Scale for Chain {
 }
 
 impl Logic for Chain {
-    ghost opposes = { λ s. chain_opposite s.n };
+    ghost opposes = { λ s. chain_opposite s.n.number };
 
-    ghost partners = { λ s. chain_partner s.n };
+    ghost partners = { λ s. chain_partner s.n.number };
 
-    ghost opposed = { λ s. chain_opposed s.n s.least s.most };
+    ghost opposed = { λ s. chain_opposed s.n.number s.n.least s.n.most };
 
     fn opposite_value(&self, v: u8) -> u8 {
         self.highest().saturating_sub(v)
@@ -108,7 +103,7 @@ impl Logic for Chain {
 
     fn partner(&self, j: u32) -> Option<u32> {
         if j < self.cut_count() {
-            Some(self.n as u32 - 2 - j)
+            Some(self.n.number as u32 - 2 - j)
         } else {
             None
         }

@@ -3,6 +3,7 @@
 
 pub mod chain;
 pub mod sets;
+mod within;
 
 #[cfg(test)]
 mod tests {

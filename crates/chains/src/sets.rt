@@ -4,43 +4,38 @@ ghost use Rattle.chains.specs.Ranges.{within};
 ghost use Rattle.chains.specs.Sets.{sets as sets_model, sets_opposite, sets_partner};
 ghost use Rattle.chains.specs.SetLaws.{sets_lawful, sets_opposed};
 
+use crate::within::Within;
 use scale::{Logic, Refusal, Scale};
 
 // The sets of k members, as k-bit numbers.
 #[derive(Clone, Copy)]
 pub struct Sets {
-    k: u8,
-    ghost least: { 1 ≤ k },
-    ghost most: { k ≤ 12 },
+    k: Within<1, 12>,
 }
 
 impl Sets {
     // The sets of k members, from 1 to 12.
     pub fn new(k: u8) -> Result<Sets, Refusal>
-        ensures { elim result [ Ok s ↦ (within 1 12 k ≡ true) × (s.k ≡ k) | Err e ↦ (within 1 12 k ≡ false) × (refusal_number e ≡ 10) ] }
+        ensures { elim result [ Ok made ↦ (within 1 12 k ≡ true) × (made.k.number ≡ k) | Err e ↦ (within 1 12 k ≡ false) × (refusal_number e ≡ 10) ] }
     {
-        if k >= 1 && k <= 12 {
-            Ok(Sets { k })
-        } else {
-            Err(Refusal::Logic)
-        }
+        Ok(Sets { k: Within::new(k)? })
     }
 
     // The set of all members.
     fn all(&self) -> u16
-        ensures value { result ≡ 2 ^ self.now.k - 1 }
+        ensures value { result ≡ 2 ^ self.now.k.number - 1 }
         ensures less { result < 4096 }
     {
-        (1u16 << self.k) - 1
+        (1u16 << self.k.number) - 1
     }
 }
 
 impl Scale for Sets {
     type Value = u16;
 
-    ghost model = { λ s. sets_model s.k };
+    ghost model = { λ s. sets_model s.k.number };
 
-    ghost lawful = { λ s. sets_lawful s.k s.least s.most };
+    ghost lawful = { λ s. sets_lawful s.k.number s.k.least s.k.most };
 
     fn lowest(&self) -> u16 {
         0
@@ -67,7 +62,7 @@ impl Scale for Sets {
     }
 
     fn cut_count(&self) -> u32 {
-        self.k as u32
+        self.k.number as u32
     }
 
     fn cut(&self, j: u32) -> Option<u16> {
@@ -108,11 +103,11 @@ impl Scale for Sets {
 }
 
 impl Logic for Sets {
-    ghost opposes = { λ s. sets_opposite s.k };
+    ghost opposes = { λ s. sets_opposite s.k.number };
 
     ghost partners = { λ s. sets_partner };
 
-    ghost opposed = { λ s. sets_opposed s.k s.least s.most };
+    ghost opposed = { λ s. sets_opposed s.k.number s.k.least s.k.most };
 
     fn opposite_value(&self, v: u16) -> u16 {
         self.all().saturating_sub(v)
