@@ -20,8 +20,6 @@ pub enum Kind {
     Table,
     Chain { values: u8 },
     Sets { members: u8 },
-    // no kind has the number, or a bit that the kind does not use is set
-    Wrong,
 }
 
 // The `count` bits of a word from bit `low` on.
@@ -42,10 +40,10 @@ fn byte(word: u32, low: u32) -> u8
 }
 
 // A kind, where the bits that it does not use are zero.
-fn only_if_zero(unused: u32, kind: Kind) -> Kind
+fn only_if_zero(unused: u32, kind: Kind) -> Option<Kind>
     ensures { result ≡ if_zero unused kind }
 {
-    if unused == 0 { kind } else { Kind::Wrong }
+    if unused == 0 { Some(kind) } else { None }
 }
 
 impl Entry {
@@ -74,7 +72,7 @@ impl Entry {
 
 impl Kind {
     // What a size word says, where its other bits are zero.
-    fn size(word: u32) -> Kind
+    fn size(word: u32) -> Option<Kind>
         ensures { result ≡ size_of word }
     {
         let stages = byte(word, 8);
@@ -83,7 +81,7 @@ impl Kind {
     }
 
     // What an ask says, where its other bits are zero.
-    fn ask(word: u32) -> Kind
+    fn ask(word: u32) -> Option<Kind>
         ensures { result ≡ ask_of word }
     {
         let line = byte(word, 20);
@@ -91,22 +89,22 @@ impl Kind {
         only_if_zero(bits(word, 0, 12), Kind::Ask { line, stage })
     }
 
-    // What a word is.
-    pub fn of(word: u32) -> Kind
+    // What a word is, or none where no kind has its number, or a bit that its kind does not use is set.
+    pub fn of(word: u32) -> Option<Kind>
         ensures { result ≡ kind_of word }
     {
         let low = byte(word, 0);
         match bits(word, 28, 4) {
             0 => only_if_zero(bits(word, 0, 28), Kind::End),
             1 => Kind::size(word),
-            2 => Kind::Enter(Entry::arrow(word)),
-            3 => Kind::Enter(Entry::mark(word)),
-            4 => Kind::Enter(Entry::Line { word }),
+            2 => Some(Kind::Enter(Entry::arrow(word))),
+            3 => Some(Kind::Enter(Entry::mark(word))),
+            4 => Some(Kind::Enter(Entry::Line { word })),
             5 => Kind::ask(word),
-            6 => Kind::Table,
+            6 => Some(Kind::Table),
             7 => only_if_zero(bits(word, 8, 20), Kind::Chain { values: low }),
             8 => only_if_zero(bits(word, 8, 20), Kind::Sets { members: low }),
-            _ => Kind::Wrong,
+            _ => None,
         }
     }
 }
