@@ -1,1 +1,2 @@
+pub mod FirstHalf
 pub mod PairNumbers

@@ -51,15 +51,20 @@ numbered_at m v true true f ex ey l e =
 numbered_at m v true false f ex ey l e = let z : ◌≡◌ {A = ℕ} 0 1 = cc in absurd (omega arith)
 numbered_at m v false y f ex ey l e = let z : ◌≡◌ {A = ℕ} 0 1 = cc in absurd (omega arith)
 
-pub numbered_less : {V : Type 0} (m : Model V) (v : V) (f : ℕ) (o : Option ℕ) → Lawful m → o ≡ number_of m v → o ≡ Some f → f < m.size
+numbered_less : {V : Type 0} (m : Model V) (v : V) (f : ℕ) (o : Option ℕ) → Lawful m → o ≡ number_of m v → o ≡ Some f → f < m.size
 numbered_less m v f o l e w = numbered_at m v (m.valid v) (leb m.size 4096) f refl refl l (sym e ∙ w)
 
-pub pair_number : {A B : Type 0} (a : Model A) (b : Model B) (s t f g : ℕ) → s ≡ (pair_model a b).size → s ≤ 4096 → t ≡ b.size → f < a.size → g < b.size → f * t + g < 4096
+pair_number : {A B : Type 0} (a : Model A) (b : Model B) (s t f g : ℕ) → s ≡ (pair_model a b).size → s ≤ 4096 → t ≡ b.size → f < a.size → g < b.size → f * t + g < 4096
 pair_number a b s t f g is few et hf hg =
     let w = product a.size b.size s is few in
     let d : f * b.size + g < a.size * b.size = digits_lt hf hg in
     let e : f * t + g ≡ f * b.size + g = ap (λ x. f * x + g) et in
     omega (arith, w.1)
+
+pub numbers_fit : {A B : Type 0} (a : Model A) (b : Model B) → Lawful a → Lawful b → (u : A) (v : B) (s t f g : ℕ) (o p : Option ℕ) →
+    s ≡ (pair_model a b).size → s ≤ 4096 → t ≡ b.size → o ≡ number_of a u → o ≡ Some f → p ≡ number_of b v → p ≡ Some g → f * t + g < 4096
+numbers_fit a b la lb u v s t f g o p is few et eo ho ep hp =
+    pair_number a b s t f g is few et (numbered_less a u f o la eo ho) (numbered_less b v g p lb ep hp)
 
 -- of a twist: the number of the second part counts down
 pub fallen_there : {V : Type 0} (m : Model V) → Lawful m → (n s t : ℕ) (v : V) (o : Option V) → s ≡ cond (leb (m.size * m.size) 4096) (m.size * m.size) 4097 → s ≤ 4096 → t ≡ m.size → o ≡ only_if (ltb (t - 1 - n % t) (named m)) v → o ≡ None → ⊥

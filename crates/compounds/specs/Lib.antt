@@ -1,3 +1,4 @@
+pub mod Halves
 pub mod Pairs
 pub mod Twists
 pub mod PairLaws

@@ -1,6 +1,7 @@
 // Two makers of logics from others, which nest without end: pairs of logics, and twists over scales.
 #![tactic(auto)]
 
+mod halves;
 pub mod pair;
 pub mod twist;
 

@@ -2,6 +2,7 @@ ghost use Rattle.std.specs.Prelude.{◌≡◌, Bool, true, false};
 ghost use Rattle.compounds.specs.Pairs.{pair_model, pair_opposite, pair_partner};
 ghost use Rattle.compounds.specs.PairLaws.{pair_lawful, pair_opposed};
 
+use crate::halves::{Half, cut_half, product};
 use scale::{Logic, Scale};
 
 // A value of a pair, part by part.
@@ -25,51 +26,39 @@ impl<A: Scale, B: Scale> Scale for Pair<A, B> {
 
     ghost lawful = { λ s. pair_lawful _ _ (A.Scale.lawful s.first) (B.Scale.lawful s.second) };
 
-    fn lowest(&self) -> PairValue<A::Value, B::Value> {
+    fn lowest(&self) -> Self::Value {
         PairValue {
             first: self.first.lowest(),
             second: self.second.lowest(),
         }
     }
 
-    fn highest(&self) -> PairValue<A::Value, B::Value> {
+    fn highest(&self) -> Self::Value {
         PairValue {
             first: self.first.highest(),
             second: self.second.highest(),
         }
     }
 
-    fn is_value(&self, v: PairValue<A::Value, B::Value>) -> bool {
+    fn is_value(&self, v: Self::Value) -> bool {
         self.first.is_value(v.first) && self.second.is_value(v.second)
     }
 
-    fn meet_values(
-        &self,
-        u: PairValue<A::Value, B::Value>,
-        v: PairValue<A::Value, B::Value>,
-    ) -> PairValue<A::Value, B::Value> {
+    fn meet_values(&self, u: Self::Value, v: Self::Value) -> Self::Value {
         PairValue {
             first: self.first.meet_values(u.first, v.first),
             second: self.second.meet_values(u.second, v.second),
         }
     }
 
-    fn join_values(
-        &self,
-        u: PairValue<A::Value, B::Value>,
-        v: PairValue<A::Value, B::Value>,
-    ) -> PairValue<A::Value, B::Value> {
+    fn join_values(&self, u: Self::Value, v: Self::Value) -> Self::Value {
         PairValue {
             first: self.first.join_values(u.first, v.first),
             second: self.second.join_values(u.second, v.second),
         }
     }
 
-    fn leq_values(
-        &self,
-        u: PairValue<A::Value, B::Value>,
-        v: PairValue<A::Value, B::Value>,
-    ) -> bool {
+    fn leq_values(&self, u: Self::Value, v: Self::Value) -> bool {
         self.first.leq_values(u.first, v.first) && self.second.leq_values(u.second, v.second)
     }
 
@@ -82,44 +71,41 @@ impl<A: Scale, B: Scale> Scale for Pair<A, B> {
     }
 
     // The first part's cuts come first, each with lowest beside it.
-    fn cut(&self, j: u32) -> Option<PairValue<A::Value, B::Value>> {
-        if self.size() > 4096 {
-            return None;
-        }
-        let h = self.first.cut_count();
-        if j < h {
-            let first = self.first.cut(j)?;
-            let second = self.second.lowest();
-            Some(PairValue { first, second })
-        } else {
-            let second = self.second.cut(j - h)?;
-            let first = self.first.lowest();
-            Some(PairValue { first, second })
+    fn cut(&self, j: u32) -> Option<Self::Value> {
+        match cut_half(self.size(), self.first.cut_count(), j)? {
+            Half::First(i) => {
+                let first = self.first.cut(i)?;
+                let second = self.second.lowest();
+                Some(PairValue { first, second })
+            }
+            Half::Second(i) => {
+                let second = self.second.cut(i)?;
+                let first = self.first.lowest();
+                Some(PairValue { first, second })
+            }
         }
     }
 
-    fn ceiling(&self, j: u32) -> Option<PairValue<A::Value, B::Value>> {
-        if self.size() > 4096 {
-            return None;
-        }
-        let h = self.first.cut_count();
-        if j < h {
-            let first = self.first.ceiling(j)?;
-            let second = self.second.highest();
-            Some(PairValue { first, second })
-        } else {
-            let second = self.second.ceiling(j - h)?;
-            let first = self.first.highest();
-            Some(PairValue { first, second })
+    fn ceiling(&self, j: u32) -> Option<Self::Value> {
+        match cut_half(self.size(), self.first.cut_count(), j)? {
+            Half::First(i) => {
+                let first = self.first.ceiling(i)?;
+                let second = self.second.highest();
+                Some(PairValue { first, second })
+            }
+            Half::Second(i) => {
+                let second = self.second.ceiling(i)?;
+                let first = self.first.highest();
+                Some(PairValue { first, second })
+            }
         }
     }
 
     fn size(&self) -> u32 {
-        let n = self.first.size() as u64 * self.second.size() as u64;
-        if n <= 4096 { n as u32 } else { 4097 }
+        product(self.first.size(), self.second.size())
     }
 
-    fn value(&self, n: u32) -> Option<PairValue<A::Value, B::Value>> {
+    fn value(&self, n: u32) -> Option<Self::Value> {
         let size = self.size();
         if n >= size || size > 4096 {
             return None;
@@ -130,7 +116,7 @@ impl<A: Scale, B: Scale> Scale for Pair<A, B> {
         Some(PairValue { first, second })
     }
 
-    fn number(&self, v: PairValue<A::Value, B::Value>) -> Option<u32> {
+    fn number(&self, v: Self::Value) -> Option<u32> {
         if self.size() > 4096 {
             return None;
         }
@@ -150,7 +136,7 @@ impl<A: Logic, B: Logic> Logic for Pair<A, B> {
         (A.Scale.lawful s.first) (B.Scale.lawful s.second)
         _ _ (A.Logic.opposed s.first) _ _ (B.Logic.opposed s.second) };
 
-    fn opposite_value(&self, v: PairValue<A::Value, B::Value>) -> PairValue<A::Value, B::Value> {
+    fn opposite_value(&self, v: Self::Value) -> Self::Value {
         PairValue {
             first: self.first.opposite_value(v.first),
             second: self.second.opposite_value(v.second),
@@ -158,15 +144,13 @@ impl<A: Logic, B: Logic> Logic for Pair<A, B> {
     }
 
     fn partner(&self, j: u32) -> Option<u32> {
-        if self.size() > 4096 {
-            return None;
-        }
         let h = self.first.cut_count();
-        if j < h {
-            self.first.partner(j)
-        } else {
-            let second = self.second.partner(j - h)?;
-            Some(h + second)
+        match cut_half(self.size(), h, j)? {
+            Half::First(i) => self.first.partner(i),
+            Half::Second(i) => {
+                let second = self.second.partner(i)?;
+                Some(h + second)
+            }
         }
     }
 }

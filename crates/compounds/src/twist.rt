@@ -2,6 +2,7 @@ ghost use Rattle.std.specs.Prelude.{◌≡◌, Bool, true, false};
 ghost use Rattle.compounds.specs.Twists.{twist_model, twist_opposite, twist_partner};
 ghost use Rattle.compounds.specs.TwistLaws.{twist_lawful, twist_opposed};
 
+use crate::halves::{Half, cut_half, product};
 use scale::{Logic, Scale};
 
 // A value of a twist: what speaks for, and what speaks against.
@@ -24,47 +25,39 @@ impl<S: Scale> Scale for Twist<S> {
 
     ghost lawful = { λ s. twist_lawful _ (S.Scale.lawful s.scale) };
 
-    fn lowest(&self) -> TwistValue<S::Value> {
+    fn lowest(&self) -> Self::Value {
         TwistValue {
             pro: self.scale.lowest(),
             con: self.scale.highest(),
         }
     }
 
-    fn highest(&self) -> TwistValue<S::Value> {
+    fn highest(&self) -> Self::Value {
         TwistValue {
             pro: self.scale.highest(),
             con: self.scale.lowest(),
         }
     }
 
-    fn is_value(&self, v: TwistValue<S::Value>) -> bool {
+    fn is_value(&self, v: Self::Value) -> bool {
         self.scale.is_value(v.pro) && self.scale.is_value(v.con)
     }
 
-    fn meet_values(
-        &self,
-        u: TwistValue<S::Value>,
-        v: TwistValue<S::Value>,
-    ) -> TwistValue<S::Value> {
+    fn meet_values(&self, u: Self::Value, v: Self::Value) -> Self::Value {
         TwistValue {
             pro: self.scale.meet_values(u.pro, v.pro),
             con: self.scale.join_values(u.con, v.con),
         }
     }
 
-    fn join_values(
-        &self,
-        u: TwistValue<S::Value>,
-        v: TwistValue<S::Value>,
-    ) -> TwistValue<S::Value> {
+    fn join_values(&self, u: Self::Value, v: Self::Value) -> Self::Value {
         TwistValue {
             pro: self.scale.join_values(u.pro, v.pro),
             con: self.scale.meet_values(u.con, v.con),
         }
     }
 
-    fn leq_values(&self, u: TwistValue<S::Value>, v: TwistValue<S::Value>) -> bool {
+    fn leq_values(&self, u: Self::Value, v: Self::Value) -> bool {
         self.scale.leq_values(u.pro, v.pro) && self.scale.leq_values(v.con, u.con)
     }
 
@@ -74,44 +67,41 @@ impl<S: Scale> Scale for Twist<S> {
     }
 
     // First each cut of the scale beside highest, then lowest beside each ceiling.
-    fn cut(&self, j: u32) -> Option<TwistValue<S::Value>> {
-        if self.size() > 4096 {
-            return None;
-        }
-        let h = self.scale.cut_count();
-        if j < h {
-            let pro = self.scale.cut(j)?;
-            let con = self.scale.highest();
-            Some(TwistValue { pro, con })
-        } else {
-            let con = self.scale.ceiling(j - h)?;
-            let pro = self.scale.lowest();
-            Some(TwistValue { pro, con })
+    fn cut(&self, j: u32) -> Option<Self::Value> {
+        match cut_half(self.size(), self.scale.cut_count(), j)? {
+            Half::First(i) => {
+                let pro = self.scale.cut(i)?;
+                let con = self.scale.highest();
+                Some(TwistValue { pro, con })
+            }
+            Half::Second(i) => {
+                let con = self.scale.ceiling(i)?;
+                let pro = self.scale.lowest();
+                Some(TwistValue { pro, con })
+            }
         }
     }
 
-    fn ceiling(&self, j: u32) -> Option<TwistValue<S::Value>> {
-        if self.size() > 4096 {
-            return None;
-        }
-        let h = self.scale.cut_count();
-        if j < h {
-            let pro = self.scale.ceiling(j)?;
-            let con = self.scale.lowest();
-            Some(TwistValue { pro, con })
-        } else {
-            let con = self.scale.cut(j - h)?;
-            let pro = self.scale.highest();
-            Some(TwistValue { pro, con })
+    fn ceiling(&self, j: u32) -> Option<Self::Value> {
+        match cut_half(self.size(), self.scale.cut_count(), j)? {
+            Half::First(i) => {
+                let pro = self.scale.ceiling(i)?;
+                let con = self.scale.lowest();
+                Some(TwistValue { pro, con })
+            }
+            Half::Second(i) => {
+                let con = self.scale.cut(i)?;
+                let pro = self.scale.highest();
+                Some(TwistValue { pro, con })
+            }
         }
     }
 
     fn size(&self) -> u32 {
-        let n = self.scale.size() as u64 * self.scale.size() as u64;
-        if n <= 4096 { n as u32 } else { 4097 }
+        product(self.scale.size(), self.scale.size())
     }
 
-    fn value(&self, n: u32) -> Option<TwistValue<S::Value>> {
+    fn value(&self, n: u32) -> Option<Self::Value> {
         let size = self.size();
         if n >= size || size > 4096 {
             return None;
@@ -122,7 +112,7 @@ impl<S: Scale> Scale for Twist<S> {
         Some(TwistValue { pro, con })
     }
 
-    fn number(&self, v: TwistValue<S::Value>) -> Option<u32> {
+    fn number(&self, v: Self::Value) -> Option<u32> {
         if self.size() > 4096 {
             return None;
         }
@@ -140,7 +130,7 @@ impl<S: Scale> Logic for Twist<S> {
 
     ghost opposed = { λ s. twist_opposed _ (S.Scale.lawful s.scale) };
 
-    fn opposite_value(&self, v: TwistValue<S::Value>) -> TwistValue<S::Value> {
+    fn opposite_value(&self, v: Self::Value) -> Self::Value {
         TwistValue {
             pro: v.con,
             con: v.pro,
@@ -148,16 +138,11 @@ impl<S: Scale> Logic for Twist<S> {
     }
 
     fn partner(&self, j: u32) -> Option<u32> {
-        if self.size() > 4096 {
-            return None;
-        }
         let h = self.scale.cut_count();
-        if j < h {
-            Some(h + j)
-        } else if j - h < h {
-            Some(j - h)
-        } else {
-            None
+        match cut_half(self.size(), h, j)? {
+            Half::First(i) => Some(h + i),
+            Half::Second(i) if i < h => Some(i),
+            Half::Second(_) => None,
         }
     }
 }

@@ -8,7 +8,7 @@ returns-in_err-first g c =
     (first_there
     (g.A.Scale.model s.first) (g.B.Scale.model s.second)
     (g.met.A.Scale.lawful s.first) (g.met.B.Scale.lawful s.second)
-    c.args.n _ c.size-size.ensures c.if-n-size.false c.if-size-gt4096.false _ _ _ c.size-width.ensures c.value.ensures c.in_err-first.was)
+    c.args.n c.size-size.result c.size-size.ensures c.if-n-size.false c.if-size-gt4096.false c.size-width.result _ c.value.result c.size-width.ensures c.value.ensures c.in_err-first.was)
 
 pub returns-in_err-second : goal.returns-in_err-second
 returns-in_err-second g c =
@@ -17,4 +17,4 @@ returns-in_err-second g c =
     (second_there
     (g.A.Scale.model s.first) (g.B.Scale.model s.second)
     (g.met.A.Scale.lawful s.first) (g.met.B.Scale.lawful s.second)
-    c.args.n _ c.size-size.ensures c.if-n-size.false c.if-size-gt4096.false _ _ _ c.size-width.ensures c.value-2.ensures c.in_err-second.was)
+    c.args.n c.size-size.result c.size-size.ensures c.if-n-size.false c.if-size-gt4096.false c.size-width.result _ c.value-2.result c.size-width.ensures c.value-2.ensures c.in_err-second.was)
