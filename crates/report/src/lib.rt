@@ -2,10 +2,12 @@
 #![tactic(auto)]
 
 ghost use Rattle.std.specs.Prelude.{◌≡◌, List, IfOk, Some, string_bytes};
-ghost use Rattle.report.specs.Texts.{refusal_number, output_text, stop_text, on_a_line, stopped_text, text_of};
+ghost use Rattle.report.specs.declared.Refusal.TheVariants.{Logic, Sheet};
+ghost use Rattle.report.specs.Texts.{refusal_number, output_text, stop_text, text_of};
 
 use std::alloc::{AllocError, Global};
 use std::fmt;
+use std::fmt::Write;
 
 // What one call prints.
 #[derive(Clone, Copy)]
@@ -25,6 +27,22 @@ pub enum Refusal {
     Logic(scale::Refusal),
     // by a call of the sheet
     Sheet(sheet::Refusal),
+}
+
+impl From<scale::Refusal> for Refusal {
+    ghost from_gives = { λ why r. r ≡ Logic why };
+
+    fn from(why: scale::Refusal) -> Refusal {
+        Refusal::Logic(why)
+    }
+}
+
+impl From<sheet::Refusal> for Refusal {
+    ghost from_gives = { λ why r. r ≡ Sheet why };
+
+    fn from(why: sheet::Refusal) -> Refusal {
+        Refusal::Sheet(why)
+    }
 }
 
 // The word at which a plan stopped, counted from 0, and why.
@@ -81,23 +99,6 @@ impl fmt::Display for Stop {
     }
 }
 
-// The line of an output.
-fn output_line(heap: Global, output: Output) -> Result<String, AllocError>
-    ensures { IfOk result (λ t. string_bytes t ≡ on_a_line (output_text output)) }
-{
-    format!(in heap; "{output}\n")
-}
-
-// The line that says where a plan stopped, or nothing.
-fn stop_line(heap: Global, stop: Option<Stop>) -> Result<String, AllocError>
-    ensures { IfOk result (λ t. string_bytes t ≡ stopped_text stop) }
-{
-    match stop {
-        Some(stop) => format!(in heap; "{stop}\n"),
-        None => Ok(String::new(heap)),
-    }
-}
-
 impl Outcome {
     // A line for each output, and one for the refusal.
     pub fn text(&self, heap: Global) -> Result<String, AllocError>
@@ -105,11 +106,11 @@ impl Outcome {
     {
         let mut text = String::new(heap);
         for output in self.outputs.as_slice() {
-            let line = output_line(heap, *output)?;
-            text.push_str(line.as_str())?;
+            writeln!(text, "{output}")?;
         }
-        let last = stop_line(heap, self.stop)?;
-        text.push_str(last.as_str())?;
+        if let Some(stop) = self.stop {
+            writeln!(text, "{stop}")?;
+        }
         Ok(text)
     }
 }
