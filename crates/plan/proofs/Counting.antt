@@ -1,12 +1,12 @@
 -- How many words a plan has, and how many of them are a table's.
-use Rattle.std.proofs.Common.{◌≡◌, ℕ, ◌<◌, min, List, length, get_or, take, sym, ap, ◌∙◌, inl, inr, arith, take_all}
+use Rattle.std.proofs.Common.{◌≡◌, Some, ℕ, ◌<◌, min, List, length, get_or, take, sym, ap, ◌∙◌, inl, inr, arith, take_all}
 use Rattle.std.proofs.lemmas.List.{length-take}
 use Rattle.std.proofs.lemmas.Bool.{cases_lt}
 use Rattle.words.specs.declared.kind.Kind.TheVariants.{Table}
 use Rattle.words.specs.Kinds.{kind_of}
 
 -- where the first word is a table's, at least one is counted
-pub counts_one : (ws : List ℕ) (n : ℕ) → 0 < length ws → kind_of (get_or ws 0 0) ≡ Table → (n < length ws → kind_of (get_or ws n 0) ≡ Table → ⊥) → 0 < n
+pub counts_one : (ws : List ℕ) (n : ℕ) → 0 < length ws → kind_of (get_or ws 0 0) ≡ Some Table → (n < length ws → kind_of (get_or ws n 0) ≡ Some Table → ⊥) → 0 < n
 counts_one ws n some first last =
     elim (cases_lt 0 n) [
       | inl h ↦ h

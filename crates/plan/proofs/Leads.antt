@@ -1,6 +1,7 @@
 -- Calls that are lent the whole memory, one after another.
 use Rattle.std.proofs.Common.{◌≡◌, ℕ, List, [], ◌∷◌, ◌++◌, length, take, drop, Some, None, Ok, Err, Option, Result, sym, refl, ap, ◌∙◌, subst, append_assoc, append-nil, arith, take_all}
 use Rattle.std.proofs.lemmas.List.{drop_all}
+use Rattle.std.specs.Result.{IsErrAnd}
 use Rattle.words.specs.declared.kind.Entry.{Entry}
 use Rattle.words.specs.declared.kind.Entry.TheVariants.{Arrow, Mark, Line}
 use Rattle.scale.specs.Model.{Model}
@@ -31,13 +32,13 @@ value_accepted v r e = let z : ◌≡◌ {A = ℕ} 0 1 = cc in omega arith
 
 -- ---- words that are neither entries nor asks nor the end
 
-no_calls : {p q : Phase} {k : Kind} {cs : List Call} → ((e : Entry) → k ≡ Enter e → ⊥) → ((i s : ℕ) → k ≡ Ask i s → ⊥) → Spells p k cs q → ⊥
+no_calls : {p q : Phase} {k : Option Kind} {cs : List Call} → ((e : Entry) → k ≡ Some (Enter e) → ⊥) → ((i s : ℕ) → k ≡ Some (Ask i s) → ⊥) → Spells p k cs q → ⊥
 no_calls no_entry no_ask (enters {e}) = no_entry e refl
 no_calls no_entry no_ask (reopens {e}) = no_entry e refl
 no_calls no_entry no_ask (settles {k} {s}) = no_ask k s refl
 no_calls no_entry no_ask (reads {k} {s}) = no_ask k s refl
 
-pub out_of_phase : {p : Phase} {k : Kind} → (k ≡ End → ⊥) → ((e : Entry) → k ≡ Enter e → ⊥) → ((i s : ℕ) → k ≡ Ask i s → ⊥) → OutOfPhase p k
+pub out_of_phase : {p : Phase} {k : Option Kind} → (k ≡ Some End → ⊥) → ((e : Entry) → k ≡ Some (Enter e) → ⊥) → ((i s : ℕ) → k ≡ Some (Ask i s) → ⊥) → OutOfPhase p k
 out_of_phase no_end no_entry no_ask = record { no_end = no_end; no_calls = λ cs q sp. no_calls no_entry no_ask sp }
 
 -- ---- what prints nothing
@@ -51,7 +52,7 @@ refused_prints m settle r = refl
 refused_prints m (read_at k s) r = refl
 refused_prints m reopen r = refl
 
-pub entry_prints : {V : Type 0} (m : Model V) (e : Entry) (a : Reply V) → call_prints m (entry_call e) a ≡ []
+entry_prints : {V : Type 0} (m : Model V) (e : Entry) (a : Reply V) → call_prints m (entry_call e) a ≡ []
 entry_prints m (Arrow s t v) a = refl
 entry_prints m (Mark s k v) a = refl
 entry_prints m (Line w) a = refl
@@ -101,25 +102,28 @@ module _ {V : Type 0} (l : LogicOf V) where
   }
 
   -- a refused call is the last
-  pub refused_first : (w u : Sheet V) (c : Call) (cs : List Call) (r : Refusal) (os : List Output) →
-      length w.stretch ≡ lent_values → length w.words ≡ most_lines → Step l w c (refused r) u → Lead l w (c ∷ cs) os (Some r) u os
-  refused_first w u c cs r os long wide st = record {
+  pub refused_first : (w u : Sheet V) (c : Call) (cs : List Call) (r : Refusal) (os us : List Output) →
+      length w.stretch ≡ lent_values → length w.words ≡ most_lines → Step l w c (refused r) u → us ≡ os → Lead l w (c ∷ cs) os (Some r) u us
+  refused_first w u c cs r os us long wide st same = record {
     history = past c (refused r) ∷ [];
     made = stops;
     run = more (moved w u c (refused r) long wide st) still;
-    printed = none_behind os (call_prints l.model c (refused r) ++ []) (ap (λ x. x ++ []) (refused_prints l.model c r));
+    printed = same ∙ none_behind os (call_prints l.model c (refused r) ++ []) (ap (λ x. x ++ []) (refused_prints l.model c r));
   }
 
-  -- what prints nothing leaves any outputs as they were
-  pub silent : (w u : Sheet V) (cs : List Call) (os : List Output) (stop : Option Refusal) → Lead l w cs [] stop u [] → Lead l w cs os stop u os
-  silent w u cs os stop lead = record {
-    history = lead.history;
-    made = lead.made;
-    run = lead.run;
-    printed = none_behind os (prints l.model lead.history) (sym lead.printed);
-  }
+  -- an entry, which prints nothing
+  pub entry_leads : (w u : Sheet V) (e : Entry) (os us : List Output) → length w.stretch ≡ lent_values → length w.words ≡ most_lines → Step l w (entry_call e) done u → us ≡ os → Lead l w (entry_call e ∷ []) os None u us
+  entry_leads w u e os us long wide st same =
+      first w u u (entry_call e) [] done os us us None long wide done_accepted st (same ∙ none_behind os (call_prints l.model (entry_call e) done) (entry_prints l.model e done)) (ended u us)
 
   -- the same, of what a function answers
+  pub leads_refused : (w u : Sheet V) (c : Call) (cs : List Call) (q : Phase) (why : Refusal) (os us : List Output) (s : List V) (ws : List ℕ) →
+      length w.stretch ≡ lent_values → length w.words ≡ most_lines → Step l w c (refused why) u → us ≡ os →
+      (r : Result states.Phase Halt) → IsErrAnd r (λ h. h ≡ halt.Sheet why) → Leads l w (c ∷ cs) q os r s ws us
+  leads_refused w u c cs q why os us s ws long wide st same (Ok p) e = absurd e
+  leads_refused w u c cs q why os us s ws long wide st same (Err h) e =
+      subst (λ x. Leads l w (c ∷ cs) q os (Err x) s ws us) (sym e) (u, refused_first w u c cs why os us long wide st same)
+
   pub leads_first : (w v : Sheet V) (c : Call) (cs : List Call) (q : Phase) (a : Reply V) (os ps us : List Output) (s : List V) (ws : List ℕ) →
       length w.stretch ≡ lent_values → length w.words ≡ most_lines → ((r : Refusal) → a ≡ refused r → ⊥) → Step l w c a v →
       ps ≡ os ++ call_prints l.model c a → (r : Result states.Phase Halt) → Leads l v cs q ps r s ws us → Leads l w (c ∷ cs) q os r s ws us
@@ -127,14 +131,7 @@ module _ {V : Type 0} (l : LogicOf V) where
   leads_first w v c cs q a os ps us s ws long wide ok st e (Ok p) h = (first w v (sheet_in p s ws) c cs a os ps us None long wide ok st e h.0, h.1)
   leads_first w v c cs q a os ps us s ws long wide ok st e (Err halt.Word) h = h
   leads_first w v c cs q a os ps us s ws long wide ok st e (Err (halt.Sheet r)) h = (h.0, first w v h.0 c cs a os ps us (Some r) long wide ok st e h.1)
-  leads_first w v c cs q a os ps us s ws long wide ok st e (Err halt.Memory) h = h
-
-  pub leads_silent : (w : Sheet V) (cs : List Call) (q : Phase) (os : List Output) (s : List V) (ws : List ℕ) (r : Result states.Phase Halt) → Leads l w cs q [] r s ws [] → Leads l w cs q os r s ws os
-  leads_silent w cs q os s ws (Err halt.End) h = h
-  leads_silent w cs q os s ws (Ok p) h = (silent w (sheet_in p s ws) cs os None h.0, h.1)
-  leads_silent w cs q os s ws (Err halt.Word) h = h
-  leads_silent w cs q os s ws (Err (halt.Sheet r)) h = (h.0, silent w h.0 cs os (Some r) h.1)
-  leads_silent w cs q os s ws (Err halt.Memory) h = h
+  leads_first w v c cs q a os ps us s ws long wide ok st e (Err (halt.Memory m)) h = h
 
   -- a read, whose value's number is printed
   pub read_first : (w : Sheet V) (k s n : ℕ) (v : V) (os us : List Output) → length w.stretch ≡ lent_values → length w.words ≡ most_lines →
@@ -143,16 +140,16 @@ module _ {V : Type 0} (l : LogicOf V) where
       first w w w (read_at k s) [] (value v) os us us None long wide (value_accepted v) st (e ∙ ap (λ x. os ++ (Value k s x ∷ [])) is) (ended w us)
 
   -- the calls are those that a word spells
-  pub word_done : (p : states.Phase) (s t : List V) (ws xs : List ℕ) (k : Kind) (cs : List Call) (q : Phase) (os us : List Output) → Spells (sheet_in p s ws).phase k cs q →
+  pub word_done : (p : states.Phase) (s t : List V) (ws xs : List ℕ) (k : Option Kind) (cs : List Call) (q : Phase) (os us : List Output) → Spells (sheet_in p s ws).phase k cs q →
       (r : Result states.Phase Halt) → Leads l (sheet_in p s ws) cs q os r t xs us → WordDone l p s ws k os r t xs us
   word_done p s t ws xs k cs q os us sp (Err halt.End) h = absurd h
   word_done p s t ws xs k cs q os us sp (Ok u) h = record { calls = cs; spelled = subst (λ x. Spells (sheet_in p s ws).phase k cs x) (sym h.1) sp; lead = h.0 }
   word_done p s t ws xs k cs q os us sp (Err halt.Word) h = absurd h
   word_done p s t ws xs k cs q os us sp (Err (halt.Sheet r)) h = (q, (h.0, record { calls = cs; spelled = sp; lead = h.1 }))
-  word_done p s t ws xs k cs q os us sp (Err halt.Memory) h = h
+  word_done p s t ws xs k cs q os us sp (Err (halt.Memory m)) h = h
 
   -- the same where the phase and the word are known by equations
-  pub word_done_at : (p p' : states.Phase) (s t : List V) (ws xs : List ℕ) (k k' : Kind) (cs : List Call) (q : Phase) (os us : List Output) → p ≡ p' → k ≡ k' → Spells (sheet_in p' s ws).phase k' cs q →
+  pub word_done_at : (p p' : states.Phase) (s t : List V) (ws xs : List ℕ) (k k' : Option Kind) (cs : List Call) (q : Phase) (os us : List Output) → p ≡ p' → k ≡ k' → Spells (sheet_in p' s ws).phase k' cs q →
       (r : Result states.Phase Halt) → Leads l (sheet_in p' s ws) cs q os r t xs us → WordDone l p s ws k os r t xs us
   word_done_at p p' s t ws xs k k' cs q os us pe ke sp r h =
       subst (λ x. WordDone l x s ws k os r t xs us) (sym pe) (subst (λ y. WordDone l p' s ws y os r t xs us) (sym ke) (word_done p' s t ws xs k' cs q os us sp r h))

@@ -1,5 +1,5 @@
 -- The words of a plan one after another.
-use Rattle.std.proofs.Common.{◌≡◌, ℕ, ◌+◌, Bool, List, [], ◌∷◌, ◌++◌, Some, None, Err, Option, sym, refl, ap, ◌∙◌, subst, inl, inr, append_assoc, append-nil}
+use Rattle.std.proofs.Common.{◌≡◌, ℕ, ◌+◌, ◌<◌, Bool, List, [], ◌∷◌, ◌++◌, length, get_or, drop, Some, None, Err, Option, sym, refl, ap, ◌∙◌, subst, inl, inr, append_assoc, append-nil, arith}
 use Rattle.scale.specs.Model.{Model}
 use Rattle.words.specs.declared.kind.Kind.{Kind}
 use Rattle.words.specs.declared.kind.Kind.TheVariants.{End}
@@ -32,17 +32,22 @@ phase_in : {V : Type 0} (p : states.Phase) (s : List V) (ws : List ℕ) → (she
 phase_in (Draft d) s ws = refl
 phase_in (Settled x) s ws = refl
 
+-- the first word, and those after it
+pub first_drop : (ws : List ℕ) → 0 < length ws → ws ≡ get_or ws 0 0 ∷ drop 1 ws
+first_drop [] h = absurd (omega arith)
+first_drop (w ∷ ws) h = refl
+
 module _ {V : Type 0} (l : LogicOf V) (left : Bool) where
   -- Whatever the words from number j on come to from the sheet v, those from number i on come to from the sheet w.
   abbrev pub SoFar : Sheet V → ℕ → List ℕ → List Output → Sheet V → ℕ → List ℕ → List Output → Type 0
   SoFar w i all os v j rest ps = (stop : Option Stop) (us : List Output) → Plays l v left j rest ps stop us → Plays l w left i all os stop us
 
   -- the calls that lead on are those of the word x
-  word_spelled : {v u : Sheet V} {k : Kind} (x : ℕ) {ps ts : List Output} {stop : Option Refusal} {q : Phase} → k ≡ kind_of x → (g : Goes l v k ps stop q u ts) → Spells v.phase (kind_of x) g.calls q
+  word_spelled : {v u : Sheet V} {k : Option Kind} (x : ℕ) {ps ts : List Output} {stop : Option Refusal} {q : Phase} → k ≡ kind_of x → (g : Goes l v k ps stop q u ts) → Spells v.phase (kind_of x) g.calls q
   word_spelled {v} x {q = q} is g = subst (λ y. Spells v.phase y g.calls q) is g.spelled
 
   -- one word more
-  pub word_more : (w : Sheet V) (i : ℕ) (all : List ℕ) (os : List Output) (v : Sheet V) (j x : ℕ) (words rest : List ℕ) (k : Kind) (ps ts : List Output) (q : states.Phase) (t : List V) (xs : List ℕ) →
+  pub word_more : (w : Sheet V) (i : ℕ) (all : List ℕ) (os : List Output) (v : Sheet V) (j x : ℕ) (words rest : List ℕ) (k : Option Kind) (ps ts : List Output) (q : states.Phase) (t : List V) (xs : List ℕ) →
       words ≡ x ∷ rest → k ≡ kind_of x → SoFar w i all os v j words ps → Goes l v k ps None (phase_of q) (sheet_in q t xs) ts →
       SoFar w i all os (sheet_in q t xs) (j + 1) rest ts
   word_more w i all os v j x words rest k ps ts q t xs e is far g stop us p =
@@ -71,14 +76,14 @@ module _ {V : Type 0} (l : LogicOf V) (left : Bool) where
         no_more words stop ps refl
         (subst (λ y. Read {V = V} left j v.phase words [] y) (sym at) (subst (λ ys. Read {V = V} left j v.phase ys [] (word_at j)) (sym e) missing))
 
-    module _ (x : ℕ) (words rest : List ℕ) (k : Kind) (us : List Output) (e : words ≡ x ∷ rest) (is : k ≡ kind_of x) where
+    module _ (x : ℕ) (words rest : List ℕ) (k : Option Kind) (us : List Output) (e : words ≡ x ∷ rest) (is : k ≡ kind_of x) where
       first_word : (stop : Option Stop) (h : List (Past V)) (y : Option Stop) → stop ≡ y → Read {V = V} left j v.phase (x ∷ rest) h y → Read {V = V} left j v.phase words h stop
       first_word stop h y at r = subst (λ z. Read {V = V} left j v.phase words h z) (sym at) (subst (λ ys. Read {V = V} left j v.phase ys h y) (sym e) r)
 
       word_wrong : (stop : Option Stop) → OutOfPhase v.phase k → us ≡ ps → stop ≡ word_at j → Plays l v left j words ps stop us
       word_wrong stop out same at = no_more words stop us same (first_word stop [] (word_at j) at (misplaced (subst (λ y. OutOfPhase v.phase y) is out)))
 
-      word_ends : (stop : Option Stop) → k ≡ End → us ≡ ps → Ended left j rest stop → Plays l v left j words ps stop us
+      word_ends : (stop : Option Stop) → k ≡ Some End → us ≡ ps → Ended left j rest stop → Plays l v left j words ps stop us
       word_ends stop end same (inl h) =
           no_more words stop us same
           (first_word stop [] None h.0 (subst (λ ys. Read {V = V} left j v.phase (x ∷ ys) [] None) (sym h.1) (ends (sym is ∙ end) h.2)))
@@ -94,9 +99,9 @@ module _ {V : Type 0} (l : LogicOf V) (left : Bool) where
       }
 
   -- the plan goes no further
-  pub word_halts : (p : states.Phase) (s t : List V) (ws xs : List ℕ) (j x : ℕ) (words rest : List ℕ) (k : Kind) (ps us : List Output) (f : Halt) (stop : Option Stop) →
+  pub word_halts : (p : states.Phase) (s t : List V) (ws xs : List ℕ) (j x : ℕ) (words rest : List ℕ) (k : Option Kind) (ps us : List Output) (f : Halt) (stop : Option Stop) →
       words ≡ x ∷ rest → k ≡ kind_of x → WordDone l p s ws k ps (Err f) t xs us → Halted f left j rest stop → Plays l (sheet_in p s ws) left j words ps stop us
   word_halts p s t ws xs j x words rest k ps us halt.End stop e is d h = word_ends (sheet_in p s ws) j ps x words rest k us e is stop d.0 d.1 h
   word_halts p s t ws xs j x words rest k ps us halt.Word stop e is d h = word_wrong (sheet_in p s ws) j ps x words rest k us e is stop d.0 d.1 h
   word_halts p s t ws xs j x words rest k ps us (halt.Sheet r) stop e is d h = word_refused (sheet_in p s ws) j ps x words rest k us e is stop r d.0 d.1.0 d.1.1 h
-  word_halts p s t ws xs j x words rest k ps us halt.Memory stop e is d h = absurd h
+  word_halts p s t ws xs j x words rest k ps us (halt.Memory m) stop e is d h = absurd h

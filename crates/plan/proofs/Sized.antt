@@ -1,5 +1,5 @@
 -- A plan from its size word on.
-use Rattle.std.proofs.Common.{◌≡◌, ℕ, ◌+◌, Bool, List, [], ◌∷◌, ◌++◌, length, replicate, IfOk, Ok, Err, Option, Result, sym, refl, ap, ◌∙◌, subst}
+use Rattle.std.proofs.Common.{◌≡◌, Some, ℕ, ◌+◌, Bool, List, [], ◌∷◌, ◌++◌, length, replicate, IfOk, Ok, Err, Option, Result, sym, refl, ap, ◌∙◌, subst}
 use Rattle.words.specs.declared.kind.Kind.{Kind}
 use Rattle.words.specs.declared.kind.Kind.TheVariants.{Size}
 use Rattle.words.specs.Kinds.{kind_of}
@@ -27,11 +27,11 @@ module _ {V : Type 0} (l : LogicOf V) (more : Bool) (i : ℕ) where
   pub sized_none : (words : List ℕ) (os : List Output) (stop : Option Stop) → words ≡ [] → os ≡ [] → stop ≡ word_at i → SheetPlan l more i words os stop
   sized_none words os stop e none at = told_by words [] os [] stop (word_at i) e none at no_size
 
-  module _ (x : ℕ) (words rest : List ℕ) (k : Kind) (os : List Output) (stop : Option Stop) (e : words ≡ x ∷ rest) (is : k ≡ kind_of x) where
-    pub sized_other : ((n a : ℕ) → k ≡ Size n a → ⊥) → os ≡ [] → stop ≡ word_at i → SheetPlan l more i words os stop
+  module _ (x : ℕ) (words rest : List ℕ) (k : Option Kind) (os : List Output) (stop : Option Stop) (e : words ≡ x ∷ rest) (is : k ≡ kind_of x) where
+    pub sized_other : ((n a : ℕ) → k ≡ Some (Size n a) → ⊥) → os ≡ [] → stop ≡ word_at i → SheetPlan l more i words os stop
     sized_other other none at = told_by words (x ∷ rest) os [] stop (word_at i) e none at (other_word (λ n a s. other n a (is ∙ s)))
 
-    module _ (n a : ℕ) (size : k ≡ Size n a) (s t : List V) (ws xs : List ℕ) (long : length s ≡ lent_values) (wide : length ws ≡ most_lines) where
+    module _ (n a : ℕ) (size : k ≡ Some (Size n a)) (s t : List V) (ws xs : List ℕ) (long : length s ≡ lent_values) (wide : length ws ≡ most_lines) where
       lengths : (P : ℕ → ℕ → Type 0) → P (length s) (length ws) → P lent_values most_lines
       lengths P h = subst (λ y. P lent_values y) wide (subst (λ y. P y (length ws)) long h)
 

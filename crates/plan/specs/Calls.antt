@@ -21,16 +21,16 @@ entry_call (Mark stage m number) = mark stage m number
 entry_call (Line word) = line word
 
 -- The calls that a word spells in a phase of the sheet, and the phase after them: an entry reopens a settled sheet, and an ask
--- settles a draft. In either phase an end spells no call, and any other word spells nothing.
-pub data Spells : Phase → Kind → List Call → Phase → Type 0 where
-  enters : {e : Entry} → Spells drafting (Enter e) (entry_call e ∷ []) drafting
-  reopens : {e : Entry} → Spells settled (Enter e) (reopen ∷ entry_call e ∷ []) drafting
-  settles : {k s : ℕ} → Spells drafting (Ask k s) (settle ∷ read_at k s ∷ []) settled
-  reads : {k s : ℕ} → Spells settled (Ask k s) (read_at k s ∷ []) settled
+-- settles a draft. In either phase an end spells no call, and any other word, or one of no kind, spells nothing.
+pub data Spells : Phase → Option Kind → List Call → Phase → Type 0 where
+  enters : {e : Entry} → Spells drafting (Some (Enter e)) (entry_call e ∷ []) drafting
+  reopens : {e : Entry} → Spells settled (Some (Enter e)) (reopen ∷ entry_call e ∷ []) drafting
+  settles : {k s : ℕ} → Spells drafting (Some (Ask k s)) (settle ∷ read_at k s ∷ []) settled
+  reads : {k s : ℕ} → Spells settled (Some (Ask k s)) (read_at k s ∷ []) settled
 
 -- The word is neither the end nor spells a call.
-pub record OutOfPhase (p : Phase) (k : Kind) : Type 0 where
-  pub no_end : k ≡ End → ⊥
+pub record OutOfPhase (p : Phase) (k : Option Kind) : Type 0 where
+  pub no_end : k ≡ Some End → ⊥
   pub no_calls : (cs : List Call) (q : Phase) → Spells p k cs q → ⊥
 
 -- Every call is lent the memory of the largest sheet, whole.
@@ -58,8 +58,8 @@ call_at i r = Some (record { word = i; refusal = Sheet r })
 pub data Read {V : Type 0} (more : Bool) : ℕ → Phase → List ℕ → List (Past V) → Option Stop → Type 0 where
   missing : {i : ℕ} {p : Phase} → Read more i p [] [] (word_at i)
   misplaced : {i : ℕ} {p : Phase} {w : ℕ} {ws : List ℕ} → OutOfPhase p (kind_of w) → Read more i p (w ∷ ws) [] (word_at i)
-  ends : {i : ℕ} {p : Phase} {w : ℕ} → kind_of w ≡ End → more ≡ false → Read more i p (w ∷ []) [] None
-  after_end : {i : ℕ} {p : Phase} {w : ℕ} {ws : List ℕ} → kind_of w ≡ End → (0 < length ws) ⊎ (more ≡ true) → Read more i p (w ∷ ws) [] (word_at (i + 1))
+  ends : {i : ℕ} {p : Phase} {w : ℕ} → kind_of w ≡ Some End → more ≡ false → Read more i p (w ∷ []) [] None
+  after_end : {i : ℕ} {p : Phase} {w : ℕ} {ws : List ℕ} → kind_of w ≡ Some End → (0 < length ws) ⊎ (more ≡ true) → Read more i p (w ∷ ws) [] (word_at (i + 1))
   stopped : {i : ℕ} {p q : Phase} {w : ℕ} {ws : List ℕ} {cs : List Call} {h : List (Past V)} {r : sheets.Refusal} →
       Spells p (kind_of w) cs q → Made cs h (Some r) → Read more i p (w ∷ ws) h (call_at i r)
   goes_on : {i : ℕ} {p q : Phase} {w : ℕ} {ws : List ℕ} {cs : List Call} {h g : List (Past V)} {stop : Option Stop} →
@@ -108,8 +108,8 @@ pub record Played {V : Type 0} (l : LogicOf V) (n a : ℕ) (more : Bool) (i : �
 -- A plan over a logic, from its size word on, which has number i.
 pub data SheetPlan {V : Type 0} (l : LogicOf V) (more : Bool) (i : ℕ) : List ℕ → List Output → Option Stop → Type 0 where
   no_size : SheetPlan l more i [] [] (word_at i)
-  other_word : {w : ℕ} {ws : List ℕ} → ((n a : ℕ) → kind_of w ≢ Size n a) → SheetPlan l more i (w ∷ ws) [] (word_at i)
+  other_word : {w : ℕ} {ws : List ℕ} → ((n a : ℕ) → kind_of w ≢ Some (Size n a)) → SheetPlan l more i (w ∷ ws) [] (word_at i)
   not_opened : {w : ℕ} {ws : List ℕ} {n a : ℕ} {r : sheets.Refusal} →
-      kind_of w ≡ Size n a → OpensAs l.model n a lent_values most_lines (refuse r) → SheetPlan l more i (w ∷ ws) [] (call_at i r)
+      kind_of w ≡ Some (Size n a) → OpensAs l.model n a lent_values most_lines (refuse r) → SheetPlan l more i (w ∷ ws) [] (call_at i r)
   played : {w : ℕ} {ws : List ℕ} {n a : ℕ} {os : List Output} {stop : Option Stop} →
-      kind_of w ≡ Size n a → OpensAs l.model n a lent_values most_lines (accept []) → Played l n a more (i + 1) ws os stop → SheetPlan l more i (w ∷ ws) os stop
+      kind_of w ≡ Some (Size n a) → OpensAs l.model n a lent_values most_lines (accept []) → Played l n a more (i + 1) ws os stop → SheetPlan l more i (w ∷ ws) os stop

@@ -40,21 +40,21 @@ Leads l w cs q os (Ok p) s ws us = Lead l w cs os None (sheet_in p s ws) us × (
 Leads l w cs q os (Err halt.End) s ws us = ⊥
 Leads l w cs q os (Err halt.Word) s ws us = ⊥
 Leads {V} l w cs q os (Err (halt.Sheet r)) s ws us = (u : Sheet V) × Lead l w cs os (Some r) u us
-Leads l w cs q os (Err halt.Memory) s ws us = Unit {0}
+Leads l w cs q os (Err (halt.Memory e)) s ws us = Unit {0}
 
 -- The calls that a word spells in a phase, and where they lead.
-pub record Goes {V : Type 0} (l : LogicOf V) (w : Sheet V) (k : Kind) (os : List Output) (stop : Option sheets.Refusal) (q : Phase) (u : Sheet V) (us : List Output) : Type 0 where
+pub record Goes {V : Type 0} (l : LogicOf V) (w : Sheet V) (k : Option Kind) (os : List Output) (stop : Option sheets.Refusal) (q : Phase) (u : Sheet V) (us : List Output) : Type 0 where
   pub calls : List Call
   pub spelled : Spells w.phase k calls q
   pub lead : Lead l w calls os stop u us
 
 -- What a word comes to in a phase.
-abbrev pub WordDone : {V : Type 0} → LogicOf V → states.Phase → List V → List ℕ → Kind → List Output → Result states.Phase Halt → List V → List ℕ → List Output → Type 0
+abbrev pub WordDone : {V : Type 0} → LogicOf V → states.Phase → List V → List ℕ → Option Kind → List Output → Result states.Phase Halt → List V → List ℕ → List Output → Type 0
 WordDone l p s ws k os (Ok q) t xs us = Goes l (sheet_in p s ws) k os None (phase_of q) (sheet_in q t xs) us
-WordDone l p s ws k os (Err halt.End) t xs us = (k ≡ End) × (us ≡ os)
+WordDone l p s ws k os (Err halt.End) t xs us = (k ≡ Some End) × (us ≡ os)
 WordDone l p s ws k os (Err halt.Word) t xs us = OutOfPhase (sheet_in p s ws).phase k × (us ≡ os)
 WordDone {V} l p s ws k os (Err (halt.Sheet r)) t xs us = (q : Phase) × ((u : Sheet V) × Goes l (sheet_in p s ws) k os (Some r) q u us)
-WordDone l p s ws k os (Err halt.Memory) t xs us = Unit {0}
+WordDone l p s ws k os (Err (halt.Memory e)) t xs us = Unit {0}
 
 -- The words from number i on lead from the sheet w: they spell a history, which is a run of w, and what it prints comes behind os.
 pub record Plays {V : Type 0} (l : LogicOf V) (w : Sheet V) (more : Bool) (i : ℕ) (words : List ℕ) (os : List Output) (stop : Option Stop) (us : List Output) : Type 0 where
@@ -73,4 +73,4 @@ abbrev pub Halted : Halt → Bool → ℕ → List ℕ → Option Stop → Type 
 Halted halt.End more i rest stop = Ended more i rest stop
 Halted halt.Word more i rest stop = stop ≡ word_at i
 Halted (halt.Sheet r) more i rest stop = stop ≡ call_at i r
-Halted halt.Memory more i rest stop = ⊥
+Halted (halt.Memory e) more i rest stop = ⊥

@@ -1,5 +1,5 @@
 -- What a plan file comes to: from its bytes to what is printed.
-use Rattle.std.specs.Prelude.{◌≡◌, ℕ, ◌*◌, ◌<◌, Bool, true, false, List, [], ◌∷◌, ◌++◌, length, take, Some, Ok, Err, Option, ◌≢◌, nat_lt, slice_index}
+use Rattle.std.specs.Prelude.{◌≡◌, ℕ, ◌*◌, ◌<◌, Bool, true, false, List, [], ◌∷◌, ◌++◌, length, take, Some, Ok, Err, Option, Result, ◌≢◌, nat_lt, slice_index}
 use Rattle.scale.specs.declared.Refusal.{Refusal}
 use Rattle.scale.specs.Refusals.{refusal_number}
 use Rattle.chains.specs.Ranges.{within}
@@ -47,25 +47,30 @@ logic_at i r = Some (record { word = i; refusal = Logic r })
 -- Words of a table, one or more.
 pub record TableWords (ws : List ℕ) : Type 0 where
   pub some : 0 < length ws
-  pub each : (k : ℕ) → k < length ws → kind_of (slice_index ws k) ≡ Table
+  pub each : (k : ℕ) → k < length ws → kind_of (slice_index ws k) ≡ Some Table
 
 -- The word names no logic.
-pub record NoLogic (k : Kind) : Type 0 where
-  pub no_chain : (n : ℕ) → k ≢ Chain n
-  pub no_sets : (n : ℕ) → k ≢ Sets n
-  pub no_table : k ≡ Table → ⊥
+pub record NoLogic (k : Option Kind) : Type 0 where
+  pub no_chain : (n : ℕ) → k ≢ Some (Chain n)
+  pub no_sets : (n : ℕ) → k ≢ Some (Sets n)
+  pub no_table : k ≡ Some Table → ⊥
+
+-- A plan of which word 0 names a maker's logic: the words after it, or the maker's refusal.
+abbrev pub PlanOver : {S V : Type 0} → (S → LogicOf V) → Result S Refusal → Bool → ℕ → List ℕ → List Output → Option Stop → Type 0
+PlanOver logic (Ok s) more i ws os stop = SheetPlan (logic s) more i ws os stop
+PlanOver logic (Err why) more i ws os stop = (os ≡ []) × (stop ≡ logic_at 0 why)
 
 -- The words of a plan: a logic first, then its sheet. A table is judged at the word after its last, whatever that word is.
 pub data Plan (more : Bool) : List ℕ → List Output → Option Stop → Type 0 where
   no_word : Plan more [] [] (word_at 0)
   other_word : {w : ℕ} {ws : List ℕ} → NoLogic (kind_of w) → Plan more (w ∷ ws) [] (word_at 0)
   over_chain : {w n : ℕ} {ws : List ℕ} {os : List Output} {stop : Option Stop} →
-      kind_of w ≡ Chain n → within 2 64 n ≡ true → SheetPlan (chain_logic n) more 1 ws os stop → Plan more (w ∷ ws) os stop
-  no_chain : {w n : ℕ} {ws : List ℕ} {r : Refusal} → kind_of w ≡ Chain n → within 2 64 n ≡ false → refusal_number r ≡ 10 → Plan more (w ∷ ws) [] (logic_at 0 r)
+      kind_of w ≡ Some (Chain n) → within 2 64 n ≡ true → SheetPlan (chain_logic n) more 1 ws os stop → Plan more (w ∷ ws) os stop
+  no_chain : {w n : ℕ} {ws : List ℕ} {r : Refusal} → kind_of w ≡ Some (Chain n) → within 2 64 n ≡ false → refusal_number r ≡ 10 → Plan more (w ∷ ws) [] (logic_at 0 r)
   over_sets : {w k : ℕ} {ws : List ℕ} {os : List Output} {stop : Option Stop} →
-      kind_of w ≡ Sets k → within 1 12 k ≡ true → SheetPlan (sets_logic k) more 1 ws os stop → Plan more (w ∷ ws) os stop
-  no_sets : {w k : ℕ} {ws : List ℕ} {r : Refusal} → kind_of w ≡ Sets k → within 1 12 k ≡ false → refusal_number r ≡ 10 → Plan more (w ∷ ws) [] (logic_at 0 r)
+      kind_of w ≡ Some (Sets k) → within 1 12 k ≡ true → SheetPlan (sets_logic k) more 1 ws os stop → Plan more (w ∷ ws) os stop
+  no_sets : {w k : ℕ} {ws : List ℕ} {r : Refusal} → kind_of w ≡ Some (Sets k) → within 1 12 k ≡ false → refusal_number r ≡ 10 → Plan more (w ∷ ws) [] (logic_at 0 r)
   over_table : (w : ℕ) (ts ws : List ℕ) {os : List Output} {stop : Option Stop} →
-      TableWords ts → (kind_of w ≢ Table) → verdict ts ≡ Ok tt → SheetPlan (table_logic ts) more (length ts) (w ∷ ws) os stop → Plan more (ts ++ (w ∷ ws)) os stop
-  no_table : (w : ℕ) (ts ws : List ℕ) {r : Refusal} → TableWords ts → (kind_of w ≢ Table) → verdict ts ≡ Err r → Plan more (ts ++ (w ∷ ws)) [] (logic_at (length ts) r)
+      TableWords ts → (kind_of w ≢ Some Table) → verdict ts ≡ Ok tt → SheetPlan (table_logic ts) more (length ts) (w ∷ ws) os stop → Plan more (ts ++ (w ∷ ws)) os stop
+  no_table : (w : ℕ) (ts ws : List ℕ) {r : Refusal} → TableWords ts → (kind_of w ≢ Some Table) → verdict ts ≡ Err r → Plan more (ts ++ (w ∷ ws)) [] (logic_at (length ts) r)
   unended_table : {ts : List ℕ} → TableWords ts → Plan more ts [] (word_at (length ts))

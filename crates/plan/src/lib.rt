@@ -1,18 +1,21 @@
 // Plan files: words that name a logic and spell the calls of a sheet over it, and what those calls answer.
 #![tactic(auto)]
 
-ghost use Rattle.std.specs.Prelude.{◌≡◌, ℕ, ◌<◌, ◌≤◌, [], length, IfOk, ◌≢◌, slice_index};
+ghost use Rattle.std.specs.Prelude.{◌≡◌, ℕ, ◌<◌, ◌≤◌, [], Some, length, IfOk, ◌≢◌, slice_index};
+ghost use Rattle.sheet.specs.Logics.{logic_at as logic_of_type};
 ghost use Rattle.words.specs.declared.kind.Kind.TheVariants.{Table as table_kind};
 ghost use Rattle.words.specs.Kinds.{kind_of};
-ghost use Rattle.plan.specs.Plans.{plan_words, left_over, logic_at, Plan};
+ghost use Rattle.plan.specs.Plans.{plan_words, left_over, logic_at, Plan, PlanOver};
 
+mod desk;
 mod phase;
 mod playing;
 
-use crate::playing::{run_sheet, word_at};
+use crate::playing::{Rest, run_sheet, word_at};
 use chains::chain::Chain;
 use chains::sets::Sets;
-use report::{Outcome, Refusal, Stop};
+use report::{Outcome, Stop};
+use scale::Logic;
 use std::alloc::{AllocError, Global};
 use table::Table;
 use table::bytes::words_of;
@@ -20,16 +23,6 @@ use words::kind::Kind;
 
 // A plan has at most so many words.
 const MOST_WORDS: usize = 8192;
-
-// The plan stops at a word that is refused by the maker of a logic.
-fn logic_at(word: usize, why: scale::Refusal) -> Option<Stop>
-    ensures { result ≡ logic_at word why }
-{
-    Some(Stop {
-        word,
-        refusal: Refusal::Logic(why),
-    })
-}
 
 // A plan that stops before it has a sheet prints nothing else.
 fn stopped(heap: Global, stop: Option<Stop>) -> Outcome
@@ -42,15 +35,38 @@ fn stopped(heap: Global, stop: Option<Stop>) -> Outcome
     }
 }
 
+// A plan whose logic is refused at a word prints nothing else.
+fn refused(heap: Global, word: usize, why: scale::Refusal) -> Outcome
+    ensures outputs { result.outputs.items ≡ [] }
+    ensures stop { result.stop ≡ logic_at word why }
+{
+    let refusal = why.into();
+    stopped(heap, Some(Stop { word, refusal }))
+}
+
+// What a plan comes to whose first word names a logic of a maker.
+fn run_made<L: Logic + Drop>(
+    heap: Global,
+    made: Result<L, scale::Refusal>,
+    rest: Rest,
+) -> Result<Outcome, AllocError>
+    ensures { IfOk result (λ o. PlanOver (logic_of_type L.Logic) made rest.entry.more rest.entry.at rest.entry.words.now o.outputs.items o.stop) }
+{
+    match made {
+        Ok(logic) => run_sheet(heap, &logic, rest),
+        Err(why) => Ok(refused(heap, 0, why)),
+    }
+}
+
 // How many of the words are those of a table, before the first that is not.
 fn table_words(words: &[u32]) -> usize
     ensures within { result ≤ length words.now }
-    ensures each { (k : ℕ) → k < result → kind_of (slice_index words.now k) ≡ table_kind }
-    ensures last { result < length words.now → kind_of (slice_index words.now result) ≢ table_kind }
+    ensures each { (k : ℕ) → k < result → kind_of (slice_index words.now k) ≡ Some table_kind }
+    ensures last { result < length words.now → kind_of (slice_index words.now result) ≢ Some table_kind }
 {
     for (i, word) in words.iter().enumerate() {
         match Kind::of(*word) {
-            Kind::Table => {}
+            Some(Kind::Table) => {}
             _ => return i,
         }
     }
@@ -61,7 +77,7 @@ fn table_words(words: &[u32]) -> usize
 fn run_table(heap: Global, words: &[u32], more: bool) -> Result<Outcome, AllocError>
     requires few { length words.now ≤ 8192 }
     requires some { 0 < length words.now }
-    requires first { kind_of (slice_index words.now 0) ≡ table_kind }
+    requires first { kind_of (slice_index words.now 0) ≡ Some table_kind }
     ensures { IfOk result (λ o. Plan more words.now o.outputs.items o.stop) }
 {
     let count = table_words(words);
@@ -69,9 +85,14 @@ fn run_table(heap: Global, words: &[u32], more: bool) -> Result<Outcome, AllocEr
         return Ok(stopped(heap, word_at(count)));
     }
     let mut table = Table::new();
+    let rest = Rest {
+        words: &words[count..],
+        at: count,
+        more,
+    };
     match table.load(&words[0..count]) {
-        Ok(()) => run_sheet(heap, &table, &words[count..], count, more),
-        Err(why) => Ok(stopped(heap, logic_at(count, why))),
+        Ok(()) => run_sheet(heap, &table, rest),
+        Err(why) => Ok(refused(heap, count, why)),
     }
 }
 
@@ -83,16 +104,15 @@ fn run_words(heap: Global, words: &[u32], more: bool) -> Result<Outcome, AllocEr
     let [word, rest @ ..] = words else {
         return Ok(stopped(heap, word_at(0)));
     };
+    let rest = Rest {
+        words: rest,
+        at: 1,
+        more,
+    };
     match Kind::of(*word) {
-        Kind::Chain { values } => match Chain::new(values) {
-            Ok(chain) => run_sheet(heap, &chain, rest, 1, more),
-            Err(why) => Ok(stopped(heap, logic_at(0, why))),
-        },
-        Kind::Sets { members } => match Sets::new(members) {
-            Ok(sets) => run_sheet(heap, &sets, rest, 1, more),
-            Err(why) => Ok(stopped(heap, logic_at(0, why))),
-        },
-        Kind::Table => run_table(heap, words, more),
+        Some(Kind::Chain { values }) => run_made(heap, Chain::new(values), rest),
+        Some(Kind::Sets { members }) => run_made(heap, Sets::new(members), rest),
+        Some(Kind::Table) => run_table(heap, words, more),
         _ => Ok(stopped(heap, word_at(0))),
     }
 }

@@ -1,13 +1,17 @@
 // What a word of a plan does in a phase of its sheet.
-ghost use Rattle.std.specs.Prelude.{◌≡◌, [], ◌∷◌, length};
+ghost use Rattle.std.specs.Prelude.{◌≡◌, [], ◌∷◌};
 ghost use Rattle.sheet.specs.Logics.{logic_at};
-ghost use Rattle.sheet.specs.Sheet.{Step, drafting as in_draft, settled as in_settled, settle as Settle, read_at, draft_on, settled_on, entry_reply};
-ghost use Rattle.plan.specs.Calls.{entry_call, lent_values};
+ghost use Rattle.sheet.specs.Sheet.{Opens, Step, drafting as in_draft, settled as in_settled, settle as Settle, read_at, draft_on, settled_on, entry_reply, settle_reply, settle_sheet};
+ghost use Rattle.sheet.specs.Runs.{Law};
+ghost use Rattle.plan.specs.declared.phase.Halt.TheVariants.{Sheet as by_call, Memory as no_memory};
+ghost use Rattle.plan.specs.Calls.{entry_call};
 ghost use Rattle.plan.specs.Phases.{ReadsNumber, Leads, WordDone};
 
+use crate::desk::Desk;
 use report::Output;
 use scale::Logic;
 use sheet::{Draft, Settled};
+use std::alloc::{AllocError, AllocFailed};
 use words::kind::{Entry, Kind};
 
 // A sheet as a plan has it between two words.
@@ -27,19 +31,52 @@ pub enum Halt {
     // a call of the sheet is refused
     Sheet(sheet::Refusal),
     // there is no memory for what is printed
-    Memory,
+    Memory(AllocError),
+}
+
+impl From<sheet::Refusal> for Halt {
+    ghost from_gives = { λ why h. h ≡ by_call why };
+
+    fn from(why: sheet::Refusal) -> Halt {
+        Halt::Sheet(why)
+    }
+}
+
+impl From<AllocFailed<Output>> for Halt {
+    ghost from_gives = { λ _ h. (e : _) × (h ≡ no_memory e) };
+
+    fn from(failed: AllocFailed<Output>) -> Halt {
+        Halt::Memory(AllocError::from(failed))
+    }
+}
+
+// Opens a sheet of so many stages and marks.
+pub(crate) fn open<L: Logic>(
+    logic: &L,
+    desk: &mut Desk<L::Value>,
+    stages: u8,
+    marks: u8,
+) -> Result<Draft, sheet::Refusal>
+    ensures opens { Opens (logic_at L.Logic logic.now) stages marks desk.old.stretch.items desk.old.lines result desk.new.stretch.items desk.new.lines }
+    ensures law { Law (logic_at L.Logic logic.now) }
+    ensures printed { desk.new.outputs.items ≡ desk.old.outputs.items }
+{
+    let stretch = desk.stretch.as_mut_slice();
+    Draft::open(logic, stretch, &mut desk.lines, stages, marks)
 }
 
 // Makes an entry.
 fn enter<L: Logic>(
     draft: &mut Draft,
     logic: &L,
-    stretch: &mut [L::Value],
-    lines: &mut [u32],
+    desk: &mut Desk<L::Value>,
     entry: Entry,
 ) -> Result<(), sheet::Refusal>
-    ensures { Step (logic_at L.Logic logic.now) (draft_on draft.old stretch.old lines.old) (entry_call entry) (entry_reply result) (draft_on draft.new stretch.new lines.new) }
+    ensures step { Step (logic_at L.Logic logic.now) (draft_on draft.old desk.old.stretch.items desk.old.lines) (entry_call entry) (entry_reply result) (draft_on draft.new desk.new.stretch.items desk.new.lines) }
+    ensures printed { desk.new.outputs.items ≡ desk.old.outputs.items }
 {
+    let stretch = desk.stretch.as_mut_slice();
+    let lines = &mut desk.lines;
     match entry {
         Entry::Arrow { from, to, number } => draft.arrow(logic, stretch, lines, from, to, number),
         Entry::Mark {
@@ -55,14 +92,13 @@ fn enter<L: Logic>(
 fn read_number<L: Logic>(
     settled: &Settled,
     logic: &L,
-    stretch: &[L::Value],
-    lines: &[u32],
+    desk: &Desk<L::Value>,
     line: u8,
     stage: u8,
 ) -> Result<u32, sheet::Refusal>
-    ensures { ReadsNumber (logic_at L.Logic logic.now) (settled_on settled.now stretch.now lines.now) line stage result }
+    ensures { ReadsNumber (logic_at L.Logic logic.now) (settled_on settled.now desk.now.stretch.items desk.now.lines) line stage result }
 {
-    let value = settled.read(logic, stretch, lines, line, stage)?;
+    let value = settled.read(logic, desk.stretch.as_slice(), &desk.lines, line, stage)?;
     match logic.number(value) {
         Some(number) => Ok(number),
         None => unreachable(),
@@ -73,67 +109,62 @@ fn read_number<L: Logic>(
 fn enter_draft<L: Logic>(
     mut draft: Draft,
     logic: &L,
-    stretch: &mut [L::Value],
-    lines: &mut [u32],
+    desk: &mut Desk<L::Value>,
     entry: Entry,
 ) -> Result<Phase, Halt>
-    requires long { length stretch.old ≡ lent_values }
-    requires wide { length lines.old ≡ 64 }
-    ensures { Leads (logic_at L.Logic logic.now) (draft_on draft stretch.old lines.old) (entry_call entry ∷ []) in_draft [] result stretch.new lines.new [] }
+    ensures { Leads (logic_at L.Logic logic.now) (draft_on draft desk.old.stretch.items desk.old.lines) (entry_call entry ∷ []) in_draft desk.old.outputs.items result desk.new.stretch.items desk.new.lines desk.new.outputs.items }
 {
-    match enter(&mut draft, logic, stretch, lines, entry) {
-        Ok(()) => Ok(Phase::Draft(draft)),
-        Err(why) => Err(Halt::Sheet(why)),
-    }
+    enter(&mut draft, logic, desk, entry)?;
+    Ok(Phase::Draft(draft))
 }
 
 // Reads a line at a stage, and notes the value's number.
 fn ask_settled<L: Logic>(
     settled: Settled,
     logic: &L,
-    stretch: &[L::Value],
-    lines: &[u32],
+    desk: &mut Desk<L::Value>,
     line: u8,
     stage: u8,
-    outputs: &mut Vec<Output>,
 ) -> Result<Phase, Halt>
-    requires long { length stretch.now ≡ lent_values }
-    requires wide { length lines.now ≡ 64 }
-    ensures { Leads (logic_at L.Logic logic.now) (settled_on settled stretch.now lines.now) (read_at line stage ∷ []) in_settled outputs.old.items result stretch.now lines.now outputs.new.items }
+    ensures { Leads (logic_at L.Logic logic.now) (settled_on settled desk.old.stretch.items desk.old.lines) (read_at line stage ∷ []) in_settled desk.old.outputs.items result desk.new.stretch.items desk.new.lines desk.new.outputs.items }
 {
-    let number = match read_number(&settled, logic, stretch, lines, line, stage) {
-        Ok(number) => number,
-        Err(why) => return Err(Halt::Sheet(why)),
-    };
-    match outputs.push(Output::Value {
+    let number = read_number(&settled, logic, desk, line, stage)?;
+    desk.outputs.push(Output::Value {
         line,
         stage,
         number,
-    }) {
-        Ok(()) => Ok(Phase::Settled(settled)),
-        Err(_) => Err(Halt::Memory),
-    }
+    })?;
+    Ok(Phase::Settled(settled))
+}
+
+// Settles a draft.
+fn settle<L: Logic>(
+    draft: Draft,
+    logic: &L,
+    desk: &mut Desk<L::Value>,
+) -> Result<(Settled, u8), (Draft, sheet::Refusal)>
+    ensures step { Step (logic_at L.Logic logic.now) (draft_on draft desk.old.stretch.items desk.old.lines) Settle (settle_reply result) (settle_sheet result desk.new.stretch.items desk.new.lines) }
+    ensures lines { desk.new.lines ≡ desk.old.lines }
+    ensures printed { desk.new.outputs.items ≡ desk.old.outputs.items }
+{
+    draft.settle(logic, desk.stretch.as_mut_slice(), &desk.lines)
 }
 
 // Settles a draft and notes the rounds, then reads a line at a stage.
 fn ask_draft<L: Logic>(
     draft: Draft,
     logic: &L,
-    stretch: &mut [L::Value],
-    lines: &[u32],
+    desk: &mut Desk<L::Value>,
     line: u8,
     stage: u8,
-    outputs: &mut Vec<Output>,
 ) -> Result<Phase, Halt>
-    requires long { length stretch.old ≡ lent_values }
-    requires wide { length lines.now ≡ 64 }
-    ensures { Leads (logic_at L.Logic logic.now) (draft_on draft stretch.old lines.now) (Settle ∷ read_at line stage ∷ []) in_settled outputs.old.items result stretch.new lines.now outputs.new.items }
+    ensures { Leads (logic_at L.Logic logic.now) (draft_on draft desk.old.stretch.items desk.old.lines) (Settle ∷ read_at line stage ∷ []) in_settled desk.old.outputs.items result desk.new.stretch.items desk.new.lines desk.new.outputs.items }
 {
-    match draft.settle(logic, stretch, lines) {
-        Ok((settled, rounds)) => match outputs.push(Output::Rounds(rounds)) {
-            Ok(()) => ask_settled(settled, logic, stretch, lines, line, stage, outputs),
-            Err(_) => Err(Halt::Memory),
-        },
+    match settle(draft, logic, desk) {
+        Ok((settled, rounds)) => {
+            desk.outputs.push(Output::Rounds(rounds))?;
+            ask_settled(settled, logic, desk, line, stage)
+        }
         Err((_, why)) => Err(Halt::Sheet(why)),
     }
 }
@@ -143,30 +174,26 @@ impl Phase {
     pub(crate) fn step<L: Logic>(
         self,
         logic: &L,
-        stretch: &mut [L::Value],
-        lines: &mut [u32],
-        kind: Kind,
-        outputs: &mut Vec<Output>,
+        desk: &mut Desk<L::Value>,
+        kind: Option<Kind>,
     ) -> Result<Phase, Halt>
-        requires long { length stretch.old ≡ lent_values }
-        requires wide { length lines.old ≡ 64 }
-        ensures { WordDone (logic_at L.Logic logic.now) self stretch.old lines.old kind outputs.old.items result stretch.new lines.new outputs.new.items }
+        ensures { WordDone (logic_at L.Logic logic.now) self desk.old.stretch.items desk.old.lines kind desk.old.outputs.items result desk.new.stretch.items desk.new.lines desk.new.outputs.items }
     {
         match (self, kind) {
-            (Phase::Draft(draft), Kind::Enter(entry)) => {
-                enter_draft(draft, logic, stretch, lines, entry)
+            (Phase::Draft(draft), Some(Kind::Enter(entry))) => {
+                enter_draft(draft, logic, desk, entry)
             }
-            (Phase::Settled(settled), Kind::Enter(entry)) => {
-                let draft = settled.reopen(logic, stretch, lines);
-                enter_draft(draft, logic, stretch, lines, entry)
+            (Phase::Settled(settled), Some(Kind::Enter(entry))) => {
+                let draft = settled.reopen(logic, desk.stretch.as_slice(), &desk.lines);
+                enter_draft(draft, logic, desk, entry)
             }
-            (Phase::Draft(draft), Kind::Ask { line, stage }) => {
-                ask_draft(draft, logic, stretch, lines, line, stage, outputs)
+            (Phase::Draft(draft), Some(Kind::Ask { line, stage })) => {
+                ask_draft(draft, logic, desk, line, stage)
             }
-            (Phase::Settled(settled), Kind::Ask { line, stage }) => {
-                ask_settled(settled, logic, stretch, lines, line, stage, outputs)
+            (Phase::Settled(settled), Some(Kind::Ask { line, stage })) => {
+                ask_settled(settled, logic, desk, line, stage)
             }
-            (_, Kind::End) => Err(Halt::End),
+            (_, Some(Kind::End)) => Err(Halt::End),
             _ => Err(Halt::Word),
         }
     }

@@ -1,19 +1,27 @@
 // A plan over one logic, from its size word to its end.
-ghost use Rattle.std.specs.Prelude.{◌≡◌, ◌+◌, ◌≤◌, [], length, IfOk, vec_len};
+ghost use Rattle.std.specs.Prelude.{◌≡◌, ◌+◌, ◌≤◌, [], length, drop, IfOk};
 ghost use Rattle.sheet.specs.Logics.{logic_at};
 ghost use Rattle.sheet.specs.Sheet.{draft_on};
-ghost use Rattle.plan.specs.Calls.{lent_values, word_at, call_at, SheetPlan};
+ghost use Rattle.plan.specs.Calls.{word_at, SheetPlan};
 ghost use Rattle.plan.specs.Phases.{Plays, Ended, Halted};
 
-use crate::phase::{Halt, Phase};
-use report::{Outcome, Output, Refusal, Stop};
+use crate::desk::Desk;
+use crate::phase::{Halt, Phase, open};
+use report::{Outcome, Refusal, Stop};
 use scale::Logic;
 use sheet::Draft;
 use std::alloc::{AllocError, Global};
 use words::kind::Kind;
 
-// The values that the largest sheet is lent: 64 × (64 + 16 + 66).
-const MOST_VALUES: usize = 9344;
+// The words of a plan that are still to be played; `more` says that bytes follow the last.
+#[derive(Clone, Copy)]
+pub(crate) struct Rest<'a> {
+    pub(crate) words: &'a [u32],
+    // the number of the first of them
+    pub(crate) at: usize,
+    pub(crate) more: bool,
+    ghost few: { at + length words.now ≤ 8192 },
+}
 
 // The plan stops at a word that is missing, out of phase or malformed.
 pub(crate) fn word_at(word: usize) -> Option<Stop>
@@ -25,132 +33,100 @@ pub(crate) fn word_at(word: usize) -> Option<Stop>
     })
 }
 
-// The plan stops at a word of which a call is refused.
-fn call_at(word: usize, why: sheet::Refusal) -> Option<Stop>
-    ensures { result ≡ call_at word why }
-{
-    Some(Stop {
-        word,
-        refusal: Refusal::Sheet(why),
-    })
-}
+impl<'a> Rest<'a> {
+    // What follows the end word, which is the first of these: nothing may.
+    fn after_end(self) -> Option<Stop>
+        ensures { Ended self.entry.more self.entry.at (drop 1 self.entry.words.now) result }
+    {
+        if self.more || self.words.len() > 1 {
+            word_at(self.at + 1)
+        } else {
+            None
+        }
+    }
 
-// What follows the end word, which has number `at`: nothing may.
-fn after_end(rest: &[u32], more: bool, at: usize) -> Option<Stop>
-    requires { at ≤ 8192 }
-    ensures { Ended more at rest.now result }
-{
-    if more || rest.len() > 0 {
-        word_at(at + 1)
-    } else {
-        None
+    // Where a plan stops that goes no further at the first of these words.
+    fn stop(self, halt: Halt) -> Result<Option<Stop>, AllocError>
+        ensures { IfOk result (λ stop. Halted halt self.entry.more self.entry.at (drop 1 self.entry.words.now) stop) }
+    {
+        match halt {
+            Halt::End => Ok(self.after_end()),
+            Halt::Word => Ok(word_at(self.at)),
+            Halt::Sheet(why) => Ok(Some(Stop {
+                word: self.at,
+                refusal: why.into(),
+            })),
+            Halt::Memory(failed) => Err(failed),
+        }
     }
 }
 
-// Where a plan stops that goes no further at the word with number `at`, which `rest` follows.
-fn stop_of(halt: Halt, rest: &[u32], more: bool, at: usize) -> Result<Option<Stop>, AllocError>
-    requires { at ≤ 8192 }
-    ensures { IfOk result (λ stop. Halted halt more at rest.now stop) }
-{
-    match halt {
-        Halt::End => Ok(after_end(rest, more, at)),
-        Halt::Word => Ok(word_at(at)),
-        Halt::Sheet(why) => Ok(call_at(at, why)),
-        Halt::Memory => Err(AllocError),
-    }
-}
-
-// Plays the words of a plan on its sheet. They have numbers from `first` on; `more` says that bytes follow the last.
+// Plays the words of a plan on its sheet.
 fn play<L: Logic>(
     logic: &L,
-    stretch: &mut [L::Value],
-    lines: &mut [u32],
+    desk: &mut Desk<L::Value>,
     draft: Draft,
-    plan: &[u32],
-    first: usize,
-    more: bool,
-    outputs: &mut Vec<Output>,
+    plan: Rest,
 ) -> Result<Option<Stop>, AllocError>
-    requires long { length stretch.old ≡ lent_values }
-    requires wide { length lines.old ≡ 64 }
-    requires few { first + length plan.now ≤ 8192 }
-    ensures { IfOk result (λ stop. Plays (logic_at L.Logic logic.now) (draft_on draft stretch.old lines.old) more first plan.now outputs.old.items stop outputs.new.items) }
+    ensures { IfOk result (λ stop. Plays (logic_at L.Logic logic.now) (draft_on draft desk.old.stretch.items desk.old.lines) plan.entry.more plan.entry.at plan.entry.words.now desk.old.outputs.items stop desk.new.outputs.items) }
 {
-    let mut words = plan;
+    let mut rest = plan;
     let mut phase = Phase::Draft(draft);
-    let mut at = first;
-    'words: while let [word, rest @ ..] = words {
-        phase = match phase.step(logic, stretch, lines, Kind::of(*word), outputs) {
+    'words: while let [word, words @ ..] = rest.words {
+        phase = match phase.step(logic, desk, Kind::of(*word)) {
             Ok(next) => next,
-            Err(halt) => return stop_of(halt, rest, more, at),
+            Err(halt) => return rest.stop(halt),
         };
-        words = rest;
-        at += 1;
+        rest = Rest {
+            words,
+            at: rest.at + 1,
+            more: rest.more,
+        };
     }
-    Ok(word_at(at))
+    Ok(word_at(rest.at))
 }
 
 // Opens the sheet that the size word says, and plays the words after it.
 fn play_sized<L: Logic>(
     logic: &L,
-    stretch: &mut [L::Value],
-    lines: &mut [u32],
-    words: &[u32],
-    at: usize,
-    more: bool,
-    outputs: &mut Vec<Output>,
+    desk: &mut Desk<L::Value>,
+    plan: Rest,
 ) -> Result<Option<Stop>, AllocError>
-    requires long { length stretch.old ≡ lent_values }
-    requires wide { length lines.old ≡ 64 }
-    requires few { at + length words.now ≤ 8192 }
-    requires fresh { outputs.old.items ≡ [] }
-    ensures { IfOk result (λ stop. SheetPlan (logic_at L.Logic logic.now) more at words.now outputs.new.items stop) }
+    requires fresh { desk.old.outputs.items ≡ [] }
+    ensures { IfOk result (λ stop. SheetPlan (logic_at L.Logic logic.now) plan.entry.more plan.entry.at plan.entry.words.now desk.new.outputs.items stop) }
 {
-    let [word, rest @ ..] = words else {
-        return Ok(word_at(at));
+    let [word, words @ ..] = plan.words else {
+        return Ok(word_at(plan.at));
     };
-    let Kind::Size { stages, marks } = Kind::of(*word) else {
-        return Ok(word_at(at));
+    let Some(Kind::Size { stages, marks }) = Kind::of(*word) else {
+        return Ok(word_at(plan.at));
     };
-    match Draft::open(logic, stretch, lines, stages, marks) {
-        Ok(draft) => play(logic, stretch, lines, draft, rest, at + 1, more, outputs),
-        Err(why) => Ok(call_at(at, why)),
+    match open(logic, desk, stages, marks) {
+        Ok(draft) => {
+            let rest = Rest {
+                words,
+                at: plan.at + 1,
+                more: plan.more,
+            };
+            play(logic, desk, draft, rest)
+        }
+        Err(why) => Ok(Some(Stop {
+            word: plan.at,
+            refusal: why.into(),
+        })),
     }
 }
 
-// The memory of the largest sheet.
-fn largest_stretch<V: Copy>(heap: Global, v: V) -> Result<Vec<V>, AllocError>
-    ensures { IfOk result (λ s. vec_len s ≡ lent_values) }
-{
-    let mut stretch = Vec::new(heap);
-    'stretch: while stretch.len() < MOST_VALUES {
-        stretch.push(v)?;
-    }
-    Ok(stretch)
-}
-
-// What a plan over a logic comes to, from its size word on, which has number `at`.
+// What a plan over a logic comes to, from its size word on.
 pub(crate) fn run_sheet<L: Logic>(
     heap: Global,
     logic: &L,
-    words: &[u32],
-    at: usize,
-    more: bool,
+    plan: Rest,
 ) -> Result<Outcome, AllocError>
-    requires few { at + length words.now ≤ 8192 }
-    ensures { IfOk result (λ o. SheetPlan (logic_at L.Logic logic.now) more at words.now o.outputs.items o.stop) }
+    ensures { IfOk result (λ o. SheetPlan (logic_at L.Logic logic.now) plan.entry.more plan.entry.at plan.entry.words.now o.outputs.items o.stop) }
 {
-    let mut stretch = largest_stretch(heap, logic.lowest())?;
-    let mut lines = [0u32; 64];
-    let mut outputs = Vec::new(heap);
-    let stop = play_sized(
-        logic,
-        stretch.as_mut_slice(),
-        &mut lines,
-        words,
-        at,
-        more,
-        &mut outputs,
-    )?;
+    let mut desk = Desk::new(heap, logic.lowest())?;
+    let stop = play_sized(logic, &mut desk, plan)?;
+    let Desk { outputs, .. } = desk;
     Ok(Outcome { outputs, stop })
 }

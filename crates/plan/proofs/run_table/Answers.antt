@@ -37,6 +37,6 @@ returns-in-Err c =
     let n = c.table_words-count.result in
     let h = c.table_words-count.ensures in
     let short : n < length ws = c.if-count-words.false in
-    plan_no_table c.args.more ws (vec_items c.stopped-in-Err.result.outputs) c.stopped-in-Err.result.stop n
+    plan_no_table c.args.more ws (vec_items c.refused.result.outputs) c.refused.result.stop n
     (counts_one ws n c.requires.some c.requires.first h.last) h.each short (h.last short)
-    c.in-Err.why (sym c.in-Err.ensures.answer) c.stopped-in-Err.ensures.outputs (c.stopped-in-Err.ensures.stop ∙ c.logic_at.ensures)
+    c.in-Err.why (sym c.in-Err.ensures.answer) c.refused.ensures.outputs c.refused.ensures.stop

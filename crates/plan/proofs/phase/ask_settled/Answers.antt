@@ -1,20 +1,23 @@
-use Rattle.std.proofs.Common.{[], vec_items, refl}
+use Rattle.std.proofs.Common.{[], refl, rules}
 use Rattle.sheet.specs.Logics.{logic_of}
-use Rattle.sheet.specs.Sheet.{settled_on, read_at}
-use Rattle.plan.proofs.Leads.{read_first, refused_first}
+use Rattle.sheet.specs.Sheet.{settled_on, settled, read_at}
+use Rattle.plan.proofs.Leads.{read_first, leads_refused}
 use Rattle.plan.proofs.phase.ask_settled.Goals as goal
 
-pub returns-in-Err : goal.returns-in-Err
-returns-in-Err g c =
+pub returns-in_err-number : goal.returns-in_err-number
+returns-in_err-number g c =
     let logic = c.args.logic.now in
     let l = logic_of (g.L.Scale.model logic) (g.L.Logic.opposes logic) (g.L.Logic.partners logic) in
-    let w = settled_on c.args.settled c.args.stretch.now c.args.lines.now in
-    (w, refused_first l w w (read_at c.args.line c.args.stage) [] c.in-Err.why (vec_items c.args.outputs.now) c.requires.long c.requires.wide c.in-Err.ensures)
+    let desk = c.args.desk.now in
+    let w = settled_on c.args.settled desk.stretch.items desk.lines in
+    leads_refused l w w (read_at c.args.line c.args.stage) [] settled c.in_err-number.field-0.0 desk.outputs.items desk.outputs.items desk.stretch.items desk.lines
+    desk.long (search rules) c.in_err-number.ensures refl c.from_residual.result c.from_residual.ensures.1
 
-pub returns-in-Ok-push : goal.returns-in-Ok-push
-returns-in-Ok-push g c =
+pub returns : goal.returns
+returns g c =
     let logic = c.args.logic.now in
     let l = logic_of (g.L.Scale.model logic) (g.L.Logic.opposes logic) (g.L.Logic.partners logic) in
-    let w = settled_on c.args.settled c.args.stretch.now c.args.lines.now in
-    let e = c.in-Ok.ensures in
-    (read_first l w c.args.line c.args.stage c.in-Ok.number e.0 (vec_items c.args.outputs.now) (vec_items c.push.new.self) c.requires.long c.requires.wide e.1 e.2 c.in-Ok-push.ensures.items, refl)
+    let desk = c.args.desk.now in
+    let w = settled_on c.args.settled desk.stretch.items desk.lines in
+    let e = c.in_ok-number.ensures in
+    (read_first l w c.args.line c.args.stage c.in_ok-number.number e.0 desk.outputs.items c.push.new.self.items desk.long (search rules) e.1 e.2 c.in_ok-push.ensures.items, refl)
