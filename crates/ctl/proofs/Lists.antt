@@ -86,8 +86,8 @@ module _ {V : Type 0} (o : Ops V) where
             (b : Bool) → alike o (rounds o n step i) (rounds o n step (suc i)) ≡ b → Rounds o n step (i + changes o n step (suc left) (rounds o n step i))
         go rest true e =
             subst (λ b. Rounds o n step (i + (elim b [ true ↦ 0 | false ↦ suc (changes o n step left (rounds o n step (suc i))) ]))) (sym e)
-            (let NoneMore : i ≡ i + 0 = omega arith in
-            subst (Rounds o n step) NoneMore (record { changing = moves; still = is_still i e }))
+            (let none_more : i ≡ i + 0 = omega arith in
+            subst (Rounds o n step) none_more (record { changing = moves; still = is_still i e }))
         go rest false e =
             subst (λ b. Rounds o n step (i + (elim b [ true ↦ 0 | false ↦ suc (changes o n step left (rounds o n step (suc i))) ]))) (sym e)
             (let one_more : suc i + changes o n step left (rounds o n step (suc i)) ≡ i + suc (changes o n step left (rounds o n step (suc i))) = omega arith in

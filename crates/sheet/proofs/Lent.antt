@@ -1,16 +1,26 @@
 -- The checks of the memory lent come before those of a call.
-use Rattle.std.proofs.Common.{◌≡◌, ℕ, ◌+◌, ◌<◌, ◌≤◌, Bool, true, false, ltb, leb, List, [], Some, None, Option, sym, refl, ◌∙◌, inl, inr, arith}
+use Rattle.std.proofs.Common.{◌≡◌, ℕ, ◌+◌, ◌<◌, ◌≤◌, Bool, true, false, ltb, leb, List, [], Some, None, Option, Ok, Err, Result, ok_or, sym, refl, ◌∙◌, inl, inr, arith}
 use Rattle.std.proofs.lemmas.Bool.{cond-true, le-leb, ltb-true, ltb-false}
 use Rattle.scale.specs.Model.{Model, named, only_if, value_at}
 use Rattle.lines.specs.declared.Line.{Line}
 use Rattle.sheet.specs.declared.state.Refusal.{Refusal}
-use Rattle.sheet.specs.Layout.{arrow_place, mark_place, answer_row}
-use Rattle.sheet.specs.Sheet.{arrow, mark, read_at, Verdict, refuse, accept, accepts, lent, Judged}
+use Rattle.sheet.specs.Layout.{mark_place, answer_row}
+use Rattle.sheet.specs.Sheet.{Verdict, refuse, accept, needs, accepts, lent}
+use Rattle.sheet.specs.Verdicts.{mark_placed, answer_placed}
 use Rattle.sheet.proofs.Agree.{passed}
-use Rattle.sheet.proofs.Places.{arrow_within, mark_within, entries_first, entries_within, answer_within}
+use Rattle.sheet.proofs.Places.{mark_within, entries_within, answer_within}
 
 no_refusal : {r : Refusal} {new : List Line} {A : Type 0} → refuse r ≡ accept new → A
 no_refusal e = let z : ◌≡◌ {A = ℕ} 0 1 = cc in absurd (omega arith)
+
+-- a check that refuses, and two in a row, whatever checks come after; and checks that pass
+pub refused_first : {X : Type 0} {r q : Refusal} (rest : X → Verdict → Type 0) → needs X r (λ _. accepts []) (refuse q) → needs X r rest (refuse q)
+refused_first rest (inl p) = inl p
+refused_first rest (inr p) = no_refusal p.1
+
+pub refused_second : {X Y : Type 0} {r s q : Refusal} (rest : X → Y → Verdict → Type 0) → needs X r (λ _. needs Y s (λ _. accepts [])) (refuse q) → needs X r (λ x. needs Y s (rest x)) (refuse q)
+refused_second rest (inl p) = inl p
+refused_second rest (inr p) = inr (p.0, refused_first (rest p.0) p.1)
 
 module _ {V : Type 0} (m : Model V) (n a vs ws : ℕ) where
   -- a call that the memory stops is refused so
@@ -36,38 +46,29 @@ missed_at : {V : Type 0} (b : Bool) (v : V) → only_if b v ≡ None → b ≡ f
 missed_at true v e = let z : ◌≡◌ {A = ℕ} 0 1 = cc in absurd (omega arith)
 missed_at false v e = refl
 
-pub value_found : {V : Type 0} (m : Model V) (k : ℕ) (o : Option V) (v : V) → m.size ≤ 4096 → o ≡ value_at m k → o ≡ Some v → (k < m.size) × (v ≡ m.value k)
-value_found m k o v small e f =
-    let w = found_at (ltb k (named m)) (m.value k) v (sym e ∙ f) in
-    (let h = ltb-true k (named m) w.0 in let all = named_all m small in omega arith, w.1)
+pub value_found : {V : Type 0} (m : Model V) (k : ℕ) (o : Option V) (e : Result V Refusal) (r : Refusal) (v : V) → m.size ≤ 4096 → o ≡ value_at m k → e ≡ ok_or o r → e ≡ Ok v → (k < m.size) × (v ≡ m.value k)
+value_found m k (Some u) e r v small is made was =
+    let same : u ≡ v = cc in
+    let w = found_at (ltb k (named m)) (m.value k) u (sym is) in
+    (let h = ltb-true k (named m) w.0 in let all = named_all m small in omega arith, sym same ∙ w.1)
+value_found m k None e r v small is made was = let z : ◌≡◌ {A = ℕ} 0 1 = cc in absurd (omega arith)
 
-pub value_missed : {V : Type 0} (m : Model V) (k : ℕ) (o : Option V) → m.size ≤ 4096 → o ≡ value_at m k → o ≡ None → m.size ≤ k
-value_missed m k o small e f =
-    let h = ltb-false k (named m) (missed_at (ltb k (named m)) (m.value k) (sym e ∙ f)) in
+pub value_missed : {V : Type 0} (m : Model V) (k : ℕ) (o : Option V) (e : Result V Refusal) (r q : Refusal) → m.size ≤ 4096 → o ≡ value_at m k → e ≡ ok_or o r → e ≡ Err q → (m.size ≤ k) × (q ≡ r)
+value_missed m k (Some u) e r q small is made was = let z : ◌≡◌ {A = ℕ} 0 1 = cc in absurd (omega arith)
+value_missed m k None e r q small is made was =
+    let h = ltb-false k (named m) (missed_at (ltb k (named m)) (m.value k) (sym is)) in
     let all = named_all m small in
-    omega arith
+    (omega arith, cc)
 
--- ---- where an accepted entry lies, and an accepted read
+-- ---- where a mark that is entered and an answer that is read lie
 
-module _ {V : Type 0} (m : Model V) (n a vs ws count : ℕ) (P : Type 0) where
-  pub arrow_lies : (i j v : ℕ) (new : List Line) → Judged m n a vs ws count P (arrow i j v) (accept new) → arrow_place n i j < vs
-  arrow_lies i j v new d =
-      let roomy = passed (passed d).1 in
-      let stages = passed (passed roomy.1).1 in
-      let r = roomy.0 in
-      omega (arith, arrow_within n i j stages.0.0 stages.0.1, entries_first n a, entries_within n a)
+module _ {V : Type 0} (m : Model V) (n a vs ws : ℕ) (right : lent m n a vs ws (accepts []) (accept [])) where
+  pub mark_lies : (i k p : ℕ) → mark_placed n a i k (accepts []) (accept []) → p ≡ mark_place n a i k → p < vs
+  mark_lies i k p d is =
+      let room = (passed (passed right).1).0 in let stage = passed d in
+      omega (arith, room, mark_within n a i k stage.0 (passed stage.1).0, entries_within n a)
 
-  pub mark_lies : (i k v : ℕ) (new : List Line) → Judged m n a vs ws count P (mark i k v) (accept new) → mark_place n a i k < vs
-  mark_lies i k v new d =
-      let roomy = passed (passed d).1 in
-      let stage = passed (passed roomy.1).1 in
-      let r = roomy.0 in
-      omega (arith, mark_within n a i k stage.0 (passed stage.1).0, entries_within n a)
-
-  pub answer_lies : (k i : ℕ) (new : List Line) → count ≤ 64 → Judged m n a vs ws count P (read_at k i) (accept new) → answer_row n a k + i < vs
-  answer_lies k i new few d =
-      let roomy = passed (passed d).1 in
-      let there = passed (passed roomy.1).1 in
-      let h = there.0 in
-      let r = roomy.0 in
-      omega (arith, answer_within n a k i (omega arith) (passed there.1).0)
+  pub answer_lies : (count k i p : ℕ) → count ≤ 64 → answer_placed n count k i (accepts []) (accept []) → p ≡ answer_row n a k + i → p < vs
+  answer_lies count k i p few d is =
+      let room = (passed (passed right).1).0 in let there = passed d in let h = there.0 in
+      omega (arith, room, answer_within n a k i (omega arith) (passed there.1).0)

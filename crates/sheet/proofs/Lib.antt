@@ -9,6 +9,7 @@ pub mod Agree
 pub mod Keeps
 pub mod Lent
 pub mod Calls
+pub mod Checks
 pub mod Texts
 pub mod Filling
 pub mod LinesSettled

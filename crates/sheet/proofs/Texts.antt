@@ -27,47 +27,47 @@ stops_keep m n a vs ws r (inr (x, inr (y, inl p))) = ap text_wipes (same_refusal
 stops_keep m n a vs ws r (inr (x, inr (y, inr (z, p)))) = let e : ◌≡◌ {A = ℕ} 0 1 = cc in absurd (omega arith)
 
 pub text_stopped : {V : Type 0} (l : LogicOf V) (d : Draft) (s : List V) (os ns bs : List ℕ) (r : Refusal) →
-    lent l.model d.stages d.marks (length s) (length os) (accepts []) (refuse r) → Step l (draft_on d s os) (text ns bs) (refused r) (draft_on d s os)
+    lent l.model d.size.stages d.size.marks (length s) (length os) (accepts []) (refuse r) → Step l (draft_on d s os) (text ns bs) (refused r) (draft_on d s os)
 text_stopped l d s os ns bs r stop = record {
   permitted = tt;
   verdict = refuse r;
-  judged = stopped l.model d.stages d.marks (length s) (length os) (Asked l.model d.stages d.marks (held d.lines) (Unit {0}) (text ns bs)) r stop;
-  ends = (refl, ap (λ b. left b (draft_on d s os)) (sym (stops_keep l.model d.stages d.marks (length s) (length os) r stop)));
+  judged = stopped l.model d.size.stages d.size.marks (length s) (length os) (Asked l.model d.size.stages d.size.marks (held d.size.lines) (Unit {0}) (text ns bs)) r stop;
+  ends = (refl, ap (λ b. left b (draft_on d s os)) (sym (stops_keep l.model d.size.stages d.size.marks (length s) (length os) r stop)));
 }
 
 module _ {V : Type 0} (l : LogicOf V) (d : Draft) (s : List V) (os ns bs : List ℕ)
-    (right : lent l.model d.stages d.marks (length s) (length os) (accepts []) (accept [])) where
+    (right : lent l.model d.size.stages d.size.marks (length s) (length os) (accepts []) (accept [])) where
   wordy : 64 ≤ length os
   wordy = (passed (passed (passed right).1).1).0
 
-  pub text_refused : (why : lined.Refusal) (os' : List ℕ) → Outcome ns bs d.marks d.lines os (Err why) os' →
+  pub text_refused : (why : lined.Refusal) (os' : List ℕ) → Outcome ns bs d.size.marks d.size.lines os (Err why) os' →
       Step l (draft_on d s os) (text ns bs) (refused (text_refusal why)) (draft_on d s os')
   text_refused reading.Line os' out = absurd out
   text_refused reading.Names os' out = record {
     permitted = tt;
     verdict = refuse Names;
-    judged = let_through l.model d.stages d.marks (length s) (length os) (Asked l.model d.stages d.marks (held d.lines) (Unit {0}) (text ns bs)) (refuse Names) right (inl (out.0, refl));
+    judged = let_through l.model d.size.stages d.size.marks (length s) (length os) (Asked l.model d.size.stages d.size.marks (held d.size.lines) (Unit {0}) (text ns bs)) (refuse Names) right (inl (out.0, refl));
     ends = (refl, ap (draft_on d s) out.1);
   }
   text_refused reading.Text os' out = record {
     permitted = tt;
     verdict = refuse Text;
-    judged = let_through l.model d.stages d.marks (length s) (length os) (Asked l.model d.stages d.marks (held d.lines) (Unit {0}) (text ns bs)) (refuse Text) right
+    judged = let_through l.model d.size.stages d.size.marks (length s) (length os) (Asked l.model d.size.stages d.size.marks (held d.size.lines) (Unit {0}) (text ns bs)) (refuse Text) right
         (inr (out.0, inl ((λ t. out.1 t.1.short t.0 t.1.spelled), refl)));
     ends = (refl, ap (draft_on d s) out.2);
   }
   text_refused reading.Full os' out = record {
     permitted = tt;
     verdict = refuse Full;
-    judged = let_through l.model d.stages d.marks (length s) (length os) (Asked l.model d.stages d.marks (held d.lines) (Unit {0}) (text ns bs)) (refuse Full) right
+    judged = let_through l.model d.size.stages d.size.marks (length s) (length os) (Asked l.model d.size.stages d.size.marks (held d.size.lines) (Unit {0}) (text ns bs)) (refuse Full) right
         (inr (out.names, inr ((out.tree, out.taken), inl ((λ h. let over = out.over in let w = wordy in omega arith), refl))));
     ends = (refl, ap (draft_on d s) out.words);
   }
 
-  pub text_done : (k : ℕ) (os' : List ℕ) → Accepts ns bs d.marks d.lines os k os' →
-      Step l (draft_on d s os) (text ns bs) done (draft_on (record { stages = d.stages; marks = d.marks; lines = k }) s os')
+  pub text_done : (k : ℕ) (os' : List ℕ) → Accepts ns bs d.size.marks d.size.lines os k os' →
+      Step l (draft_on d s os) (text ns bs) done (draft_on (record { size = record { stages = d.size.stages; marks = d.size.marks; lines = k } }) s os')
   text_done k os' out =
-      let n = held d.lines in
+      let n = held d.size.lines in
       let new = tree_lines n out.tree in
       let w = draft_on d s os in
       let fits = out.fits in
@@ -79,7 +79,7 @@ module _ {V : Type 0} (l : LogicOf V) (d : Draft) (s : List V) (os ns bs : List 
       record {
         permitted = tt;
         verdict = accept new;
-        judged = let_through l.model d.stages d.marks (length s) (length os) (Asked l.model d.stages d.marks n (Unit {0}) (text ns bs)) (accept new) right
+        judged = let_through l.model d.size.stages d.size.marks (length s) (length os) (Asked l.model d.size.stages d.size.marks n (Unit {0}) (text ns bs)) (accept new) right
             (inr (out.names, inr ((out.tree, out.taken), inr (few, refl))));
         ends = (
           refl,

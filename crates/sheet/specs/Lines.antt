@@ -1,5 +1,5 @@
 -- The formulas that lines stand for.
-use Rattle.std.specs.Prelude.{◌≡◌, ℕ, ◌+◌, ◌<◌, ◌≤◌, ◌⊎◌, List, [], ◌∷◌, ◌++◌, length, get_or, slice_index, slice_index_or}
+use Rattle.std.specs.Prelude.{◌≡◌, ℕ, ◌+◌, ◌<◌, ◌≤◌, ◌⊎◌, List, [], ◌∷◌, ◌++◌, length, slice_index, slice_index_or}
 use Rattle.lines.specs.declared.Line.{Line}
 use Rattle.lines.specs.declared.Line.TheVariants.{False, True, Mark, One, Two}
 use Rattle.lines.specs.declared.Unary.{Unary}
@@ -42,7 +42,7 @@ line_formula of (Two o l r) = two_formula o (of l) (of r)
 -- The formulas of lines, after those of earlier ones, and that of line k.
 abbrev pub formulas : List Formula → List Line → List Formula
 formulas fs [] = fs
-formulas fs (l ∷ ls) = formulas (fs ++ (line_formula (λ i. get_or fs i F) l ∷ [])) ls
+formulas fs (l ∷ ls) = formulas (fs ++ (line_formula (λ i. slice_index_or fs i F) l ∷ [])) ls
 
 abbrev pub formula : List Line → ℕ → Formula
 formula ls k = slice_index_or (formulas [] ls) k F

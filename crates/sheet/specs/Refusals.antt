@@ -1,5 +1,5 @@
 -- The refusals of a sheet's calls: the number and the name of each.
-use Rattle.std.specs.Prelude.{ℕ, List, codes}
+use Rattle.std.specs.Prelude.{ℕ, List, ◌++◌, codes, decimal}
 use Rattle.lines.specs.declared.Refusal as lined
 use Rattle.lines.specs.declared.Refusal.TheVariants as reading
 use Rattle.sheet.specs.declared.state.Refusal.{Refusal}
@@ -32,6 +32,10 @@ refusal_name Answer = codes "Answer"
 refusal_name Logic = codes "Logic"
 refusal_name Names = codes "Names"
 refusal_name Text = codes "Text"
+
+-- How a refusal is shown: its number and its name.
+abbrev pub shown_refusal : Refusal → List ℕ
+shown_refusal r = decimal (refusal_number r) ++ (codes " " ++ refusal_name r)
 
 -- A refusal of the layer that reads words and texts, as the sheet's.
 abbrev pub text_refusal : lined.Refusal → Refusal

@@ -219,10 +219,10 @@ pub record Step {V : Type 0} (l : LogicOf V) (w : Sheet V) (c : Call) (a : Reply
 
 -- The sheets that the two states stand for. A number of lines over 64 stands for 64.
 abbrev pub draft_on : {V : Type 0} → Draft → List V → List ℕ → Sheet V
-draft_on d s ws = record { phase = drafting; stages = d.stages; marks = d.marks; lines = held d.lines; stretch = s; words = ws }
+draft_on d s ws = record { phase = drafting; stages = d.size.stages; marks = d.size.marks; lines = held d.size.lines; stretch = s; words = ws }
 
 abbrev pub settled_on : {V : Type 0} → Settled → List V → List ℕ → Sheet V
-settled_on d s ws = record { phase = settled; stages = d.stages; marks = d.marks; lines = held d.lines; stretch = s; words = ws }
+settled_on d s ws = record { phase = settled; stages = d.size.stages; marks = d.size.marks; lines = held d.size.lines; stretch = s; words = ws }
 
 -- The answers that results stand for.
 abbrev pub entry_reply : {V : Type 0} → Result Unit Refusal → Reply V

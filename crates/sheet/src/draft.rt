@@ -1,39 +1,21 @@
 // A draft: it takes entries, and is settled.
-ghost use Rattle.std.specs.Prelude.{◌≡◌, ℕ, ◌≤◌, List, length, replicate, Ok, Err};
-ghost use Rattle.lines.specs.declared.Line.{Line as Said};
-ghost use Rattle.formula.specs.Tells.{held};
-ghost use Rattle.sheet.specs.Sheet.{Opens, Step, arrow as enter_arrow, mark as enter_mark, line as enter_line, text as enter_text, settle as Settle, Judged, draft_on, entry_reply, settle_reply, settle_sheet};
+ghost use Rattle.std.specs.Prelude.{◌≡◌, length, replicate};
+ghost use Rattle.sheet.specs.Sheet.{Opens, Step, arrow as enter_arrow, mark as enter_mark, line as enter_line, text as enter_text, settle as Settle, draft_on, entry_reply, settle_reply, settle_sheet};
 ghost use Rattle.sheet.specs.Logics.{logic_at};
-ghost use Rattle.sheet.specs.Refusals.{text_refusal};
 ghost use Rattle.sheet.specs.Runs.{Law, Tells};
-ghost use Rattle.sheet.specs.Lines.{Says};
-ghost use Rattle.sheet.specs.Verdicts.{EntryRight, LineRight, verdict_of};
 
-use crate::checks::{held_lines, lent_refused, open_refused};
-use crate::settling::{all_say_lines, settle_lines};
+use crate::size::{MOST_LINES, Size};
 use crate::state::{Draft, Refusal, Settled};
 use formula::append;
 use lines::Line;
 use scale::Logic;
 
-// Writes v over a slice.
+// Writes v over a slice. The library's `fill` asks that a clone of v cannot fail, which `Copy` does not say.
 fn fill<V: Copy>(row: &mut [V], v: V)
     ensures { row.new ≡ replicate (length row.old) v }
 {
-    for i in 0..row.len() {
-        row[i] = v;
-    }
-}
-
-// A refusal of the layer that reads texts, as the sheet's.
-fn text_refusal(why: lines::Refusal) -> Refusal
-    ensures { result ≡ text_refusal why }
-{
-    match why {
-        lines::Refusal::Line => Refusal::Line,
-        lines::Refusal::Full => Refusal::Full,
-        lines::Refusal::Names => Refusal::Names,
-        lines::Refusal::Text => Refusal::Text,
+    for entry in row.iter_mut() {
+        *entry = v;
     }
 }
 
@@ -49,43 +31,11 @@ impl Draft {
         ensures opens { Opens (logic_at L.Logic logic.now) stages marks stretch.old words.old result stretch.new words.new }
         ensures law { Law (logic_at L.Logic logic.now) }
     {
-        if let Some(why) = open_refused(logic, stages, marks, stretch.len(), words.len()) {
-            return Err(why);
-        }
+        let size = Size::opened(stages, marks)?;
+        size.check_lent(logic, stretch.len(), words.len())?;
         fill(stretch, logic.lowest());
-        fill(words, 0);
-        Ok(Draft {
-            stages,
-            marks,
-            lines: 0,
-        })
-    }
-
-    // The value to be entered at an arrow, or why it cannot be.
-    fn arrow_value<L: Logic>(
-        &self,
-        logic: &L,
-        values: usize,
-        words: usize,
-        from: u8,
-        to: u8,
-        number: u32,
-    ) -> Result<L::Value, Refusal>
-        ensures { EntryRight (L.Scale.model logic.now) self.now.stages self.now.marks values words (held self.now.lines) (enter_arrow from to number) number result }
-    {
-        if let Some(why) = lent_refused(logic, self.stages, self.marks, values, words) {
-            return Err(why);
-        }
-        if from >= self.stages {
-            return Err(Refusal::State);
-        }
-        if to >= self.stages {
-            return Err(Refusal::State);
-        }
-        match logic.value(number) {
-            Some(value) => Ok(value),
-            None => Err(Refusal::Value),
-        }
+        words.fill(0);
+        Ok(Draft { size })
     }
 
     // Enters the value with a number at the arrow from one stage to another.
@@ -101,41 +51,10 @@ impl Draft {
         ensures step { Step (logic_at L.Logic logic.now) (draft_on self.old stretch.old words.now) (enter_arrow from to number) (entry_reply result) (draft_on self.new stretch.new words.now) }
         ensures law { Tells (logic_at L.Logic logic.now) (draft_on self.old stretch.old words.now) (enter_arrow from to number) (entry_reply result) }
     {
-        match self.arrow_value(logic, stretch.len(), words.len(), from, to, number) {
-            Ok(value) => {
-                let n = self.stages as usize;
-                stretch[from as usize * n + to as usize] = value;
-                Ok(())
-            }
-            Err(why) => Err(why),
-        }
-    }
-
-    // The value to be entered at a mark, or why it cannot be.
-    fn mark_value<L: Logic>(
-        &self,
-        logic: &L,
-        values: usize,
-        words: usize,
-        stage: u8,
-        mark: u8,
-        number: u32,
-    ) -> Result<L::Value, Refusal>
-        ensures { EntryRight (L.Scale.model logic.now) self.now.stages self.now.marks values words (held self.now.lines) (enter_mark stage mark number) number result }
-    {
-        if let Some(why) = lent_refused(logic, self.stages, self.marks, values, words) {
-            return Err(why);
-        }
-        if stage >= self.stages {
-            return Err(Refusal::State);
-        }
-        if mark >= self.marks {
-            return Err(Refusal::Mark);
-        }
-        match logic.value(number) {
-            Some(value) => Ok(value),
-            None => Err(Refusal::Value),
-        }
+        self.size.check_lent(logic, stretch.len(), words.len())?;
+        let place = self.size.arrow_place(from, to)?;
+        stretch[place] = logic.value(number).ok_or(Refusal::Value)?;
+        Ok(())
     }
 
     // Enters the value with a number at a mark of a stage.
@@ -151,38 +70,10 @@ impl Draft {
         ensures step { Step (logic_at L.Logic logic.now) (draft_on self.old stretch.old words.now) (enter_mark stage mark number) (entry_reply result) (draft_on self.new stretch.new words.now) }
         ensures law { Tells (logic_at L.Logic logic.now) (draft_on self.old stretch.old words.now) (enter_mark stage mark number) (entry_reply result) }
     {
-        match self.mark_value(logic, stretch.len(), words.len(), stage, mark, number) {
-            Ok(value) => {
-                let n = self.stages as usize;
-                let place = stage as usize * self.marks as usize + mark as usize;
-                stretch[n * n + place] = value;
-                Ok(())
-            }
-            Err(why) => Err(why),
-        }
-    }
-
-    // The line to be appended for a word, or why it cannot be.
-    fn new_line<L: Logic>(
-        &self,
-        logic: &L,
-        values: usize,
-        words: usize,
-        word: u32,
-    ) -> Result<Line, Refusal>
-        ensures { LineRight (L.Scale.model logic.now) self.now.stages self.now.marks values words (held self.now.lines) word result }
-    {
-        if let Some(why) = lent_refused(logic, self.stages, self.marks, values, words) {
-            return Err(why);
-        }
-        let count = held_lines(self.lines);
-        if count >= 64 {
-            return Err(Refusal::Full);
-        }
-        match Line::read(word, count, self.marks) {
-            Ok(line) => Ok(line),
-            Err(_) => Err(Refusal::Line),
-        }
+        self.size.check_lent(logic, stretch.len(), words.len())?;
+        let place = self.size.mark_place(stage, mark)?;
+        stretch[place] = logic.value(number).ok_or(Refusal::Value)?;
+        Ok(())
     }
 
     // Appends the line of a word.
@@ -196,15 +87,15 @@ impl Draft {
         ensures step { Step (logic_at L.Logic logic.now) (draft_on self.old stretch.now words.old) (enter_line word) (entry_reply result) (draft_on self.new stretch.now words.new) }
         ensures law { Tells (logic_at L.Logic logic.now) (draft_on self.old stretch.now words.old) (enter_line word) (entry_reply result) }
     {
-        match self.new_line(logic, stretch.len(), words.len(), word) {
-            Ok(_) => {
-                let count = held_lines(self.lines);
-                words[count as usize] = word;
-                self.lines = count + 1;
-                Ok(())
-            }
-            Err(why) => Err(why),
+        self.size.check_lent(logic, stretch.len(), words.len())?;
+        let count = self.size.held();
+        if count >= MOST_LINES {
+            return Err(Refusal::Full);
         }
+        Line::read(word, count, self.size.marks)?;
+        words[count as usize] = word;
+        self.size.lines = count + 1;
+        Ok(())
     }
 
     // Appends the lines of a formula's text; the names of the marks are listed in their order.
@@ -219,35 +110,9 @@ impl Draft {
         ensures step { Step (logic_at L.Logic logic.now) (draft_on self.old stretch.now words.old) (enter_text names.now formula.now) (entry_reply result) (draft_on self.new stretch.now words.new) }
         ensures law { Tells (logic_at L.Logic logic.now) (draft_on self.old stretch.now words.old) (enter_text names.now formula.now) (entry_reply result) }
     {
-        if let Some(why) = lent_refused(
-            logic,
-            self.stages,
-            self.marks,
-            stretch.len(),
-            words.len(),
-        ) {
-            return Err(why);
-        }
-        match append(names, formula, self.marks, self.lines, words) {
-            Ok(lines) => {
-                self.lines = lines;
-                Ok(())
-            }
-            Err(why) => Err(text_refusal(why)),
-        }
-    }
-
-    // Why the draft cannot be settled, if it cannot.
-    fn settle_refused<L: Logic>(&self, logic: &L, values: usize, words: &[u32]) -> Option<Refusal>
-        ensures { Judged (L.Scale.model logic.now) self.now.stages self.now.marks values (length words.now) (held self.now.lines) ((ls : List Said) × Says self.now.marks (held self.now.lines) words.now ls) Settle (verdict_of result) }
-    {
-        if let Some(why) = lent_refused(logic, self.stages, self.marks, values, words.len()) {
-            return Some(why);
-        }
-        if !all_say_lines(words, held_lines(self.lines), self.marks) {
-            return Some(Refusal::Line);
-        }
-        None
+        self.size.check_lent(logic, stretch.len(), words.len())?;
+        self.size.lines = append(names, formula, self.size.marks, self.size.lines, words)?;
+        Ok(())
     }
 
     // Settles the draft: fills every line's answer row, and reports the greatest count of rounds. Refused, it hands the draft back.
@@ -260,16 +125,11 @@ impl Draft {
         ensures step { Step (logic_at L.Logic logic.now) (draft_on self stretch.old words.now) Settle (settle_reply result) (settle_sheet result stretch.new words.now) }
         ensures law { Tells (logic_at L.Logic logic.now) (draft_on self stretch.old words.now) Settle (settle_reply result) }
     {
-        if let Some(why) = self.settle_refused(logic, stretch.len(), words) {
+        let size = self.size;
+        if let Err(why) = size.check_settle(logic, stretch.len(), words) {
             return Err((self, why));
         }
-        let count = held_lines(self.lines);
-        let rounds = settle_lines(logic, stretch, words, self.stages, self.marks, count);
-        let settled = Settled {
-            stages: self.stages,
-            marks: self.marks,
-            lines: self.lines,
-        };
-        Ok((settled, rounds))
+        let rounds = size.settle_lines(logic, stretch, words);
+        Ok((Settled { size }, rounds))
     }
 }

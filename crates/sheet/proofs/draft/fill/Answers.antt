@@ -2,12 +2,12 @@ use Rattle.std.proofs.Common.{◌≡◌, [], ◌∷◌, ◌++◌, length, replic
 use Rattle.std.proofs.lemmas.List.{take_more_set, take_all, replicate_more}
 use Rattle.sheet.proofs.draft.fill.Goals as goal
 
-pub loop-i-preserved : goal.loop-i-preserved
-loop-i-preserved g c =
-    take_more_set c.loop-i.row c.loop-i.i c.args.v (omega arith)
-    ∙ ap (λ l. l ++ (c.args.v ∷ [])) c.loop-i.invariant ∙ replicate_more c.loop-i.i c.args.v
+pub loop-entry-preserved : goal.loop-entry-preserved
+loop-entry-preserved g c =
+    take_more_set c.loop-entry.row c.loop-entry.entry-index c.args.v (omega arith)
+    ∙ ap (λ l. l ++ (c.args.v ∷ [])) c.loop-entry.invariant ∙ replicate_more c.loop-entry.entry-index c.args.v
 
 pub returns : goal.returns
 returns g c =
-    let at : c.loop-i.i ≡ length c.args.row.now = omega arith in
-    sym (take_all c.loop-i.i c.loop-i.row (omega arith)) ∙ c.loop-i.invariant ∙ ap (λ k. replicate k c.args.v) at
+    let at : c.loop-entry.entry-index ≡ length c.args.row.now = omega arith in
+    sym (take_all c.loop-entry.entry-index c.loop-entry.row (omega arith)) ∙ c.loop-entry.invariant ∙ ap (λ k. replicate k c.args.v) at

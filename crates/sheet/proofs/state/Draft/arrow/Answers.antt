@@ -1,41 +1,42 @@
-use Rattle.std.proofs.Common.{◌<◌, [], length, set, refl, ap, rules}
-use Rattle.formula.specs.Tells.{held}
+use Rattle.std.proofs.Common.{set, refl, ap, ◌∙◌}
 use Rattle.sheet.specs.Layout.{arrow_place}
 use Rattle.sheet.specs.Logics.{logic_of}
-use Rattle.sheet.specs.Sheet.{arrow, done, refused, draft_on, with_stretch}
-use Rattle.sheet.proofs.Calls.{told, refuses, does}
-use Rattle.sheet.proofs.Lent.{arrow_lies}
+use Rattle.sheet.specs.Sheet.{arrow, done, draft_on, with_stretch}
+use Rattle.sheet.specs.Verdicts.{arrow_placed}
+use Rattle.sheet.proofs.Calls.{told}
+use Rattle.sheet.proofs.Checks.{before_arrow, unlent, misplaced, valueless, entered}
 use Rattle.sheet.proofs.state.Draft.arrow.Goals as goal
 
-pub bounds-stretch-from : goal.bounds-stretch-from
-bounds-stretch-from g c =
-    let d = c.args.self.now in
-    arrow_lies (g.L.Scale.model c.args.logic.now) d.stages d.marks (length c.args.stretch.now) (length c.args.words.now) (held d.lines) (Unit {0}) c.args.from c.args.to c.args.number [] c.in-Ok.ensures.0
+pub returns-in_err-check_lent : goal.returns-in_err-check_lent
+returns-in_err-check_lent g c =
+    let x = c.args.logic.now in let m = g.L.Scale.model x in let opp = g.L.Logic.opposes x in let par = g.L.Logic.partners x in
+    let d = c.args.self.now.size in let w = draft_on c.args.self.now c.args.stretch.now c.args.words.now in let call = arrow c.args.from c.args.to c.args.number in
+    let st = unlent (logic_of m opp par) w call c.args.number tt (arrow_placed d.stages c.args.from c.args.to) (before_arrow d.stages c.args.from c.args.to) (λ v j. j) _ _ c.from_residual.ensures.1 c.in_err-check_lent.ensures in
+    record { step = st; law = told m opp par (g.met.L.Scale.lawful x) (g.met.L.Logic.opposed x) w call _ _ st }
 
-pub offset_bounds-stretch-from : goal.offset_bounds-stretch-from
-offset_bounds-stretch-from g c =
-    let d = c.args.self.now in
-    let h : arrow_place d.stages c.args.from c.args.to < length c.args.stretch.now = arrow_lies (g.L.Scale.model c.args.logic.now) d.stages d.marks (length c.args.stretch.now) (length c.args.words.now) (held d.lines) (Unit {0}) c.args.from c.args.to c.args.number [] c.in-Ok.ensures.0 in
-    search rules
+pub returns-in_err-place : goal.returns-in_err-place
+returns-in_err-place g c =
+    let x = c.args.logic.now in let m = g.L.Scale.model x in let opp = g.L.Logic.opposes x in let par = g.L.Logic.partners x in
+    let d = c.args.self.now.size in let w = draft_on c.args.self.now c.args.stretch.now c.args.words.now in let call = arrow c.args.from c.args.to c.args.number in
+    let st = misplaced (logic_of m opp par) w call c.args.number tt (arrow_placed d.stages c.args.from c.args.to) (before_arrow d.stages c.args.from c.args.to) (λ v j. j) _ _ c.from_residual-in_err-place.ensures.1
+    c.in_ok-check_lent.ensures c.in_err-place.ensures in
+    record { step = st; law = told m opp par (g.met.L.Scale.lawful x) (g.met.L.Logic.opposed x) w call _ _ st }
 
-pub returns-in-Ok : goal.returns-in-Ok
-returns-in-Ok g c =
-    let x = c.args.logic.now in
-    let m = g.L.Scale.model x in
-    let l = logic_of m (g.L.Logic.opposes x) (g.L.Logic.partners x) in
-    let d = c.args.self.now in
-    let w = draft_on d c.args.stretch.now c.args.words.now in
-    let call = arrow c.args.from c.args.to c.args.number in
-    let u = with_stretch (set c.args.stretch.now (arrow_place d.stages c.args.from c.args.to) c.in-Ok.value) w in
-    let st = does l w call [] done u tt c.in-Ok.ensures.0 (refl, ap (λ v. with_stretch (set c.args.stretch.now (arrow_place d.stages c.args.from c.args.to) v) w) c.in-Ok.ensures.1) in
-    record { step = st; law = told m (g.L.Logic.opposes x) (g.L.Logic.partners x) (g.met.L.Scale.lawful x) (g.met.L.Logic.opposed x) w call done u st }
+pub returns-in_err-stretch : goal.returns-in_err-stretch
+returns-in_err-stretch g c =
+    let x = c.args.logic.now in let m = g.L.Scale.model x in let opp = g.L.Logic.opposes x in let par = g.L.Logic.partners x in
+    let d = c.args.self.now.size in let w = draft_on c.args.self.now c.args.stretch.now c.args.words.now in let call = arrow c.args.from c.args.to c.args.number in
+    let st = valueless (logic_of m opp par) w call c.args.number tt (arrow_placed d.stages c.args.from c.args.to) (before_arrow d.stages c.args.from c.args.to) (λ v j. j) _ _ c.from_residual-in_err-stretch.ensures.1
+    c.in_ok-check_lent.ensures c.in_ok-place.ensures.0 c.value.result c.ok_or.result c.value.ensures c.ok_or.ensures.value c.in_err-stretch.was in
+    record { step = st; law = told m opp par (g.met.L.Scale.lawful x) (g.met.L.Logic.opposed x) w call _ _ st }
 
-pub returns-in-Err : goal.returns-in-Err
-returns-in-Err g c =
-    let x = c.args.logic.now in
-    let m = g.L.Scale.model x in
-    let l = logic_of m (g.L.Logic.opposes x) (g.L.Logic.partners x) in
-    let w = draft_on c.args.self.now c.args.stretch.now c.args.words.now in
-    let call = arrow c.args.from c.args.to c.args.number in
-    let st = refuses l w call c.in-Err.why tt c.in-Err.ensures in
-    record { step = st; law = told m (g.L.Logic.opposes x) (g.L.Logic.partners x) (g.met.L.Scale.lawful x) (g.met.L.Logic.opposed x) w call (refused c.in-Err.why) w st }
+pub returns : goal.returns
+returns g c =
+    let x = c.args.logic.now in let m = g.L.Scale.model x in let opp = g.L.Logic.opposes x in let par = g.L.Logic.partners x in
+    let s = c.args.stretch.now in let v = c.in_ok-stretch.field-0 in
+    let d = c.args.self.now.size in let w = draft_on c.args.self.now s c.args.words.now in let call = arrow c.args.from c.args.to c.args.number in
+    let st = entered (logic_of m opp par) w call c.args.number tt (arrow_placed d.stages c.args.from c.args.to) (before_arrow d.stages c.args.from c.args.to) (λ v j. j)
+    c.in_ok-check_lent.ensures c.in_ok-place.ensures.0 c.value.result c.ok_or.result v c.value.ensures c.ok_or.ensures.value c.in_ok-stretch.was
+    (with_stretch (set s c.in_ok-place.place v) w)
+    (λ is. (refl, ap (λ p. with_stretch (set s p v) w) c.in_ok-place.ensures.1 ∙ ap (λ y. with_stretch (set s (arrow_place d.stages c.args.from c.args.to) y) w) is)) in
+    record { step = st; law = told m opp par (g.met.L.Scale.lawful x) (g.met.L.Logic.opposed x) w call done _ st }

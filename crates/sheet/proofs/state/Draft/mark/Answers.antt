@@ -1,41 +1,46 @@
-use Rattle.std.proofs.Common.{◌<◌, [], length, set, refl, ap, rules}
-use Rattle.formula.specs.Tells.{held}
+use Rattle.std.proofs.Common.{set, refl, ap, ◌∙◌}
 use Rattle.sheet.specs.Layout.{mark_place}
 use Rattle.sheet.specs.Logics.{logic_of}
-use Rattle.sheet.specs.Sheet.{mark, done, refused, draft_on, with_stretch}
-use Rattle.sheet.proofs.Calls.{told, refuses, does}
+use Rattle.sheet.specs.Sheet.{mark, done, draft_on, with_stretch}
+use Rattle.sheet.specs.Verdicts.{mark_placed}
+use Rattle.sheet.proofs.Calls.{told}
+use Rattle.sheet.proofs.Checks.{before_mark, unlent, misplaced, valueless, entered}
 use Rattle.sheet.proofs.Lent.{mark_lies}
 use Rattle.sheet.proofs.state.Draft.mark.Goals as goal
 
-pub bounds-stretch-n : goal.bounds-stretch-n
-bounds-stretch-n g c =
-    let d = c.args.self.now in
-    mark_lies (g.L.Scale.model c.args.logic.now) d.stages d.marks (length c.args.stretch.now) (length c.args.words.now) (held d.lines) (Unit {0}) c.args.stage c.args.mark c.args.number [] c.in-Ok.ensures.0
+pub returns-in_err-check_lent : goal.returns-in_err-check_lent
+returns-in_err-check_lent g c =
+    let x = c.args.logic.now in let m = g.L.Scale.model x in let opp = g.L.Logic.opposes x in let par = g.L.Logic.partners x in
+    let d = c.args.self.now.size in let w = draft_on c.args.self.now c.args.stretch.now c.args.words.now in let call = mark c.args.stage c.args.mark c.args.number in
+    let st = unlent (logic_of m opp par) w call c.args.number tt (mark_placed d.stages d.marks c.args.stage c.args.mark) (before_mark d.stages d.marks c.args.stage c.args.mark) (λ v j. j) _ _ c.from_residual.ensures.1 c.in_err-check_lent.ensures in
+    record { step = st; law = told m opp par (g.met.L.Scale.lawful x) (g.met.L.Logic.opposed x) w call _ _ st }
 
-pub offset_bounds-stretch-n : goal.offset_bounds-stretch-n
-offset_bounds-stretch-n g c =
-    let d = c.args.self.now in
-    let h : mark_place d.stages d.marks c.args.stage c.args.mark < length c.args.stretch.now = mark_lies (g.L.Scale.model c.args.logic.now) d.stages d.marks (length c.args.stretch.now) (length c.args.words.now) (held d.lines) (Unit {0}) c.args.stage c.args.mark c.args.number [] c.in-Ok.ensures.0 in
-    search rules
+pub returns-in_err-place : goal.returns-in_err-place
+returns-in_err-place g c =
+    let x = c.args.logic.now in let m = g.L.Scale.model x in let opp = g.L.Logic.opposes x in let par = g.L.Logic.partners x in
+    let d = c.args.self.now.size in let w = draft_on c.args.self.now c.args.stretch.now c.args.words.now in let call = mark c.args.stage c.args.mark c.args.number in
+    let st = misplaced (logic_of m opp par) w call c.args.number tt (mark_placed d.stages d.marks c.args.stage c.args.mark) (before_mark d.stages d.marks c.args.stage c.args.mark) (λ v j. j) _ _ c.from_residual-in_err-place.ensures.1
+    c.in_ok-check_lent.ensures c.in_err-place.ensures in
+    record { step = st; law = told m opp par (g.met.L.Scale.lawful x) (g.met.L.Logic.opposed x) w call _ _ st }
 
-pub returns-in-Ok : goal.returns-in-Ok
-returns-in-Ok g c =
-    let x = c.args.logic.now in
-    let m = g.L.Scale.model x in
-    let l = logic_of m (g.L.Logic.opposes x) (g.L.Logic.partners x) in
-    let d = c.args.self.now in
-    let w = draft_on d c.args.stretch.now c.args.words.now in
-    let call = mark c.args.stage c.args.mark c.args.number in
-    let u = with_stretch (set c.args.stretch.now (mark_place d.stages d.marks c.args.stage c.args.mark) c.in-Ok.value) w in
-    let st = does l w call [] done u tt c.in-Ok.ensures.0 (refl, ap (λ v. with_stretch (set c.args.stretch.now (mark_place d.stages d.marks c.args.stage c.args.mark) v) w) c.in-Ok.ensures.1) in
-    record { step = st; law = told m (g.L.Logic.opposes x) (g.L.Logic.partners x) (g.met.L.Scale.lawful x) (g.met.L.Logic.opposed x) w call done u st }
+pub returns-in_err-stretch : goal.returns-in_err-stretch
+returns-in_err-stretch g c =
+    let x = c.args.logic.now in let m = g.L.Scale.model x in let opp = g.L.Logic.opposes x in let par = g.L.Logic.partners x in
+    let d = c.args.self.now.size in let w = draft_on c.args.self.now c.args.stretch.now c.args.words.now in let call = mark c.args.stage c.args.mark c.args.number in
+    let st = valueless (logic_of m opp par) w call c.args.number tt (mark_placed d.stages d.marks c.args.stage c.args.mark) (before_mark d.stages d.marks c.args.stage c.args.mark) (λ v j. j) _ _ c.from_residual-in_err-stretch.ensures.1
+    c.in_ok-check_lent.ensures c.in_ok-place.ensures.0 c.value.result c.ok_or.result c.value.ensures c.ok_or.ensures.value c.in_err-stretch.was in
+    record { step = st; law = told m opp par (g.met.L.Scale.lawful x) (g.met.L.Logic.opposed x) w call _ _ st }
 
-pub returns-in-Err : goal.returns-in-Err
-returns-in-Err g c =
-    let x = c.args.logic.now in
-    let m = g.L.Scale.model x in
-    let l = logic_of m (g.L.Logic.opposes x) (g.L.Logic.partners x) in
-    let w = draft_on c.args.self.now c.args.stretch.now c.args.words.now in
-    let call = mark c.args.stage c.args.mark c.args.number in
-    let st = refuses l w call c.in-Err.why tt c.in-Err.ensures in
-    record { step = st; law = told m (g.L.Logic.opposes x) (g.L.Logic.partners x) (g.met.L.Scale.lawful x) (g.met.L.Logic.opposed x) w call (refused c.in-Err.why) w st }
+pub returns : goal.returns
+returns g c =
+    let x = c.args.logic.now in let m = g.L.Scale.model x in let opp = g.L.Logic.opposes x in let par = g.L.Logic.partners x in
+    let s = c.args.stretch.now in let v = c.in_ok-stretch.field-0 in
+    let d = c.args.self.now.size in let w = draft_on c.args.self.now s c.args.words.now in let call = mark c.args.stage c.args.mark c.args.number in
+    let st = entered (logic_of m opp par) w call c.args.number tt (mark_placed d.stages d.marks c.args.stage c.args.mark) (before_mark d.stages d.marks c.args.stage c.args.mark) (λ v j. j)
+    c.in_ok-check_lent.ensures c.in_ok-place.ensures.0 c.value.result c.ok_or.result v c.value.ensures c.ok_or.ensures.value c.in_ok-stretch.was
+    (with_stretch (set s c.in_ok-place.place v) w)
+    (λ is. (refl, ap (λ p. with_stretch (set s p v) w) c.in_ok-place.ensures.1 ∙ ap (λ y. with_stretch (set s (mark_place d.stages d.marks c.args.stage c.args.mark) y) w) is)) in
+    record { step = st; law = told m opp par (g.met.L.Scale.lawful x) (g.met.L.Logic.opposed x) w call done _ st }
+
+pub bounds-stretch-place : goal.bounds-stretch-place
+bounds-stretch-place g c = mark_lies (g.L.Scale.model c.args.logic.now) _ _ _ _ c.in_ok-check_lent.ensures c.args.stage c.args.mark _ c.in_ok-place.ensures.0 c.in_ok-place.ensures.1

@@ -1,46 +1,48 @@
-use Rattle.std.proofs.Common.{◌+◌, ◌<◌, [], length, refl, ap, ◌∙◌, arith, rules}
+use Rattle.std.proofs.Common.{[], get_or, refl, ap, ◌∙◌, arith}
 use Rattle.std.proofs.lemmas.List.{get_or_read}
 use Rattle.scale.specs.Model.{read}
 use Rattle.formula.specs.Tells.{held}
-use Rattle.sheet.specs.Layout.{answer_row}
 use Rattle.sheet.specs.Logics.{logic_of}
-use Rattle.sheet.specs.Sheet.{read_at, value, refused, settled_on}
-use Rattle.sheet.proofs.Calls.{told, refuses, does}
+use Rattle.sheet.specs.Sheet.{read_at, value, accepts, settled_on}
+use Rattle.sheet.specs.Verdicts.{answer_placed}
+use Rattle.sheet.proofs.Calls.{told, reads, refuses, does}
+use Rattle.sheet.proofs.Checks.{lent_judges, rest_judges}
 use Rattle.sheet.proofs.Lent.{answer_lies}
 use Rattle.sheet.proofs.state.Settled.read.Goals as goal
 
-pub bounds-stretch-row : goal.bounds-stretch-row
-bounds-stretch-row g c =
-    let d = c.args.self.now in
-    answer_lies (g.L.Scale.model c.args.logic.now) d.stages d.marks (length c.args.stretch.now) (length c.args.words.now) (held d.lines) (Unit {0}) c.args.line c.args.stage [] (omega arith) c.in_default.ensures
+pub returns-in_err-check_lent : goal.returns-in_err-check_lent
+returns-in_err-check_lent g c =
+    let x = c.args.logic.now in let m = g.L.Scale.model x in let opp = g.L.Logic.opposes x in let par = g.L.Logic.partners x in
+    let d = c.args.self.now.size in let w = settled_on c.args.self.now c.args.stretch.now c.args.words.now in let call = read_at c.args.line c.args.stage in
+    let judged = lent_judges (logic_of m opp par) w call tt (answer_placed d.stages (held d.lines) c.args.line c.args.stage (accepts [])) (λ v j. j) _ c.in_err-check_lent.ensures in
+    let st = reads (logic_of m opp par) w call _ _ w c.from_residual.ensures.1 (refuses (logic_of m opp par) w call _ tt judged) in
+    record { step = st; law = told m opp par (g.met.L.Scale.lawful x) (g.met.L.Logic.opposed x) w call _ _ st }
 
-pub offset_bounds-stretch-row : goal.offset_bounds-stretch-row
-offset_bounds-stretch-row g c =
-    let d = c.args.self.now in
-    let h : answer_row d.stages d.marks c.args.line + c.args.stage < length c.args.stretch.now = answer_lies (g.L.Scale.model c.args.logic.now) d.stages d.marks (length c.args.stretch.now) (length c.args.words.now) (held d.lines) (Unit {0}) c.args.line c.args.stage [] (omega arith) c.in_default.ensures in
-    search rules
+pub returns-in_err-place : goal.returns-in_err-place
+returns-in_err-place g c =
+    let x = c.args.logic.now in let m = g.L.Scale.model x in let opp = g.L.Logic.opposes x in let par = g.L.Logic.partners x in
+    let d = c.args.self.now.size in let w = settled_on c.args.self.now c.args.stretch.now c.args.words.now in let call = read_at c.args.line c.args.stage in
+    let judged = rest_judges (logic_of m opp par) w call tt (answer_placed d.stages (held d.lines) c.args.line c.args.stage (accepts [])) (λ v j. j) _ c.in_ok-check_lent.ensures c.in_err-place.ensures in
+    let st = reads (logic_of m opp par) w call _ _ w c.from_residual-in_err-place.ensures.1 (refuses (logic_of m opp par) w call _ tt judged) in
+    record { step = st; law = told m opp par (g.met.L.Scale.lawful x) (g.met.L.Logic.opposed x) w call _ _ st }
 
-pub returns-in-Some : goal.returns-in-Some
-returns-in-Some g c =
-    let x = c.args.logic.now in
-    let m = g.L.Scale.model x in
-    let l = logic_of m (g.L.Logic.opposes x) (g.L.Logic.partners x) in
-    let w = settled_on c.args.self.now c.args.stretch.now c.args.words.now in
-    let call = read_at c.args.line c.args.stage in
-    let st = refuses l w call c.in-Some.why tt c.in-Some.ensures in
-    record { step = st; law = told m (g.L.Logic.opposes x) (g.L.Logic.partners x) (g.met.L.Scale.lawful x) (g.met.L.Logic.opposed x) w call (refused c.in-Some.why) w st }
+pub bounds-stretch-place : goal.bounds-stretch-place
+bounds-stretch-place g c =
+    answer_lies (g.L.Scale.model c.args.logic.now) _ _ _ _ c.in_ok-check_lent.ensures (held c.args.self.now.size.lines) c.args.line c.args.stage _ (omega arith) c.in_ok-place.ensures.0 c.in_ok-place.ensures.1
+
+pub offset_bounds-stretch-place : goal.offset_bounds-stretch-place
+offset_bounds-stretch-place g c =
+    let h = answer_lies (g.L.Scale.model c.args.logic.now) _ _ _ _ c.in_ok-check_lent.ensures (held c.args.self.now.size.lines) c.args.line c.args.stage _ (omega arith) c.in_ok-place.ensures.0 c.in_ok-place.ensures.1 in
+    omega (arith, h)
 
 pub returns : goal.returns
 returns g c =
-    let x = c.args.logic.now in
-    let m = g.L.Scale.model x in
-    let l = logic_of m (g.L.Logic.opposes x) (g.L.Logic.partners x) in
-    let d = c.args.self.now in
-    let s = c.args.stretch.now in
-    let w = settled_on d s c.args.words.now in
-    let call = read_at c.args.line c.args.stage in
-    let p = answer_row d.stages d.marks c.args.line + c.args.stage in
-    let h : p < length s = answer_lies m d.stages d.marks (length s) (length c.args.words.now) (held d.lines) (Unit {0}) c.args.line c.args.stage [] (omega arith) c.in_default.ensures in
-    let there = get_or_read s p c.index-stretch-row.result h c.index-stretch-row.is m.lowest in
-    let st = does l w call [] (value c.reading.result) w tt c.in_default.ensures (ap value (c.reading.ensures.is ∙ ap (read m) there), refl) in
-    record { step = st; law = told m (g.L.Logic.opposes x) (g.L.Logic.partners x) (g.met.L.Scale.lawful x) (g.met.L.Logic.opposed x) w call (value c.reading.result) w st }
+    let x = c.args.logic.now in let m = g.L.Scale.model x in let opp = g.L.Logic.opposes x in let par = g.L.Logic.partners x in
+    let s = c.args.stretch.now in let p = c.in_ok-place.place in
+    let d = c.args.self.now.size in let w = settled_on c.args.self.now s c.args.words.now in let call = read_at c.args.line c.args.stage in
+    let judged = rest_judges (logic_of m opp par) w call tt (answer_placed d.stages (held d.lines) c.args.line c.args.stage (accepts [])) (λ v j. j) _ c.in_ok-check_lent.ensures c.in_ok-place.ensures.0 in
+    let h = answer_lies m _ _ _ _ c.in_ok-check_lent.ensures (held d.lines) c.args.line c.args.stage p (omega arith) c.in_ok-place.ensures.0 c.in_ok-place.ensures.1 in
+    let there = get_or_read s p c.index-stretch-place.result h c.index-stretch-place.is m.lowest in
+    let is = c.reading.ensures.is ∙ ap (read m) (there ∙ ap (λ q. get_or s q m.lowest) c.in_ok-place.ensures.1) in
+    let st = does (logic_of m opp par) w call [] (value c.reading.result) w tt judged (ap value is, refl) in
+    record { step = st; law = told m opp par (g.met.L.Scale.lawful x) (g.met.L.Logic.opposed x) w call _ _ st }

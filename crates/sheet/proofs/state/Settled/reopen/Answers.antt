@@ -6,9 +6,7 @@ use Rattle.sheet.proofs.state.Settled.reopen.Goals as goal
 
 pub returns : goal.returns
 returns g c =
-    let x = c.args.logic.now in
-    let m = g.L.Scale.model x in
-    let l = logic_of m (g.L.Logic.opposes x) (g.L.Logic.partners x) in
+    let x = c.args.logic.now in let m = g.L.Scale.model x in let opp = g.L.Logic.opposes x in let par = g.L.Logic.partners x in
     let w = settled_on c.args.self c.args.stretch.now c.args.words.now in
-    let st = does l w reopen [] done (in_phase drafting w) tt refl (refl, refl) in
-    record { step = st; law = told m (g.L.Logic.opposes x) (g.L.Logic.partners x) (g.met.L.Scale.lawful x) (g.met.L.Logic.opposed x) w reopen done (in_phase drafting w) st }
+    let st = does (logic_of m opp par) w reopen [] done (in_phase drafting w) tt refl (refl, refl) in
+    record { step = st; law = told m opp par (g.met.L.Scale.lawful x) (g.met.L.Logic.opposed x) w reopen done _ st }
