@@ -1,27 +1,48 @@
 // What is printed of an answer.
 use crate::plan::VALUE_NAMES;
-use scale::Logic;
 use sheet::Refusal;
-use std::io;
+use std::fmt;
 
-pub fn print_refusal(rt: &HostRuntime, why: Refusal) -> io::Result<()> {
-    let number = why.number();
-    let name = why.name();
-    println!(rt; "refusal {number} {name}")
+// What a call answers.
+#[derive(Clone, Copy)]
+pub enum Answer {
+    Opened,
+    Entered,
+    Rounds(u8),
+    // the number of a value
+    Value(u32),
+    Refused(Refusal),
 }
 
-// The answer to a reading: the value's number and name.
-pub fn print_value<L: Logic>(
-    rt: &HostRuntime,
-    logic: &L,
-    answer: Result<L::Value, Refusal>,
-) -> io::Result<()> {
-    match answer {
-        Ok(value) => {
-            let number = logic.number(value).unwrap_or(0);
-            let name = *VALUE_NAMES.get(number as usize).unwrap_or(&"");
-            println!(rt; "{number} {name}")
+impl fmt::Display for Answer {
+    fn fmt<W: fmt::Write>(&self, f: &mut fmt::Formatter<W>) -> fmt::Result {
+        match *self {
+            Answer::Opened => write!(f, "opened"),
+            Answer::Entered => write!(f, "entered"),
+            Answer::Rounds(count) => write!(f, "rounds {count}"),
+            Answer::Value(number) => {
+                let name = *VALUE_NAMES.get(number as usize).unwrap_or(&"");
+                write!(f, "{number} {name}")
+            }
+            Answer::Refused(why) => write!(f, "refusal {why}"),
         }
-        Err(why) => print_refusal(rt, why),
+    }
+}
+
+impl From<Result<u32, Refusal>> for Answer {
+    fn from(read: Result<u32, Refusal>) -> Answer {
+        match read {
+            Ok(number) => Answer::Value(number),
+            Err(why) => Answer::Refused(why),
+        }
+    }
+}
+
+impl From<Result<(), Refusal>> for Answer {
+    fn from(entered: Result<(), Refusal>) -> Answer {
+        match entered {
+            Ok(()) => Answer::Entered,
+            Err(why) => Answer::Refused(why),
+        }
     }
 }

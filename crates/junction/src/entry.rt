@@ -1,6 +1,4 @@
 // Entries of a draft.
-use scale::Logic;
-use sheet::{Draft, Refusal};
 use std::fmt;
 
 // An entry. A value is given by its number.
@@ -22,22 +20,5 @@ impl fmt::Display for Entry {
             Entry::Line(word) => write!(f, "line 0x{word:08x}"),
             Entry::Text(text) => write!(f, "text {text}"),
         }
-    }
-}
-
-// Makes an entry. The names are those of the marks, which a text can use.
-pub fn enter<L: Logic>(
-    draft: &mut Draft,
-    logic: &L,
-    stretch: &mut [L::Value],
-    words: &mut [u32],
-    names: &str,
-    entry: Entry,
-) -> Result<(), Refusal> {
-    match entry {
-        Entry::Arrow(from, to, value) => draft.arrow(logic, stretch, words, from, to, value),
-        Entry::Mark(stage, mark, value) => draft.mark(logic, stretch, words, stage, mark, value),
-        Entry::Line(word) => draft.line(logic, stretch, words, word),
-        Entry::Text(text) => draft.text(logic, stretch, words, names.as_bytes(), text.as_bytes()),
     }
 }

@@ -2,6 +2,7 @@
 #![tactic(auto)]
 
 mod answers;
+mod desk;
 mod entry;
 mod moves;
 mod plan;
@@ -9,20 +10,23 @@ mod play;
 #[cfg(test)]
 mod tests;
 
-use scale::Scale;
+use desk::Desk;
 use table::Table;
 
 fn run(rt: &HostRuntime) -> anyhow::Result<()> {
     let mut logic = Table::new();
     if let Err(why) = logic.load(&plan::SIX) {
-        let number = why.number();
-        println!(rt; "table: refusal {number}")?;
+        println!(rt; "table: refusal {}", why.number())?;
         return Ok(());
     }
     println!(rt; "table of 6 values: loaded")?;
-    let mut stretch = [0u8; plan::VALUES];
-    let mut words = [0u32; 64];
-    play::play(rt, &logic, &mut stretch, &mut words)?;
+    let mut desk = Desk {
+        logic: &logic,
+        stretch: &mut [0; plan::VALUES],
+        words: &mut [0; 64],
+        names: plan::NAMES,
+    };
+    play::play(rt, &mut desk)?;
     Ok(())
 }
 

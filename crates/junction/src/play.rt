@@ -1,6 +1,7 @@
 // Plays the plan: each call is printed with its answer.
-use crate::answers::{print_refusal, print_value};
-use crate::entry::{Entry, enter};
+use crate::answers::Answer;
+use crate::desk::Desk;
+use crate::entry::Entry;
 use crate::moves::{entered_twice, twice_read};
 use crate::plan;
 use scale::Logic;
@@ -10,28 +11,21 @@ use std::io;
 fn print_enter<L: Logic>(
     rt: &HostRuntime,
     draft: &mut Draft,
-    logic: &L,
-    stretch: &mut [L::Value],
-    words: &mut [u32],
+    desk: &mut Desk<'_, L>,
     entry: Entry,
 ) -> io::Result<()> {
-    print!(rt; "{entry}: ")?;
-    match enter(draft, logic, stretch, words, plan::NAMES, entry) {
-        Ok(()) => println!(rt; "entered"),
-        Err(why) => print_refusal(rt, why),
-    }
+    let answer = Answer::from(desk.enter(draft, entry));
+    println!(rt; "{entry}: {answer}")
 }
 
 fn enter_entries<L: Logic>(
     rt: &HostRuntime,
     draft: &mut Draft,
-    logic: &L,
-    stretch: &mut [L::Value],
-    words: &mut [u32],
+    desk: &mut Desk<'_, L>,
     entries: &[Entry],
 ) -> io::Result<()> {
     for entry in entries {
-        print_enter(rt, draft, logic, stretch, words, *entry)?;
+        print_enter(rt, draft, desk, *entry)?;
     }
     Ok(())
 }
@@ -39,12 +33,10 @@ fn enter_entries<L: Logic>(
 fn enter_formulas<L: Logic>(
     rt: &HostRuntime,
     draft: &mut Draft,
-    logic: &L,
-    stretch: &mut [L::Value],
-    words: &mut [u32],
+    desk: &mut Desk<'_, L>,
 ) -> io::Result<()> {
     for (text, _) in plan::FORMULAS {
-        print_enter(rt, draft, logic, stretch, words, Entry::Text(text))?;
+        print_enter(rt, draft, desk, Entry::Text(text))?;
     }
     Ok(())
 }
@@ -53,81 +45,60 @@ fn enter_formulas<L: Logic>(
 fn read_formulas<L: Logic>(
     rt: &HostRuntime,
     settled: &Settled,
-    logic: &L,
-    stretch: &[L::Value],
-    words: &[u32],
+    desk: &Desk<'_, L>,
 ) -> io::Result<()> {
     for (text, line) in plan::FORMULAS {
-        print!(rt; "read {text} at 0: ")?;
-        print_value(rt, logic, settled.read(logic, stretch, words, line, 0))?;
+        let answer = Answer::from(desk.read(settled, line, 0));
+        println!(rt; "read {text} at 0: {answer}")?;
     }
     Ok(())
 }
 
 // Reads the lines that were entered as words, and one that there is not, at the stage all red.
-fn read_lines<L: Logic>(
-    rt: &HostRuntime,
-    settled: &Settled,
-    logic: &L,
-    stretch: &[L::Value],
-    words: &[u32],
-) -> io::Result<()> {
+fn read_lines<L: Logic>(rt: &HostRuntime, settled: &Settled, desk: &Desk<'_, L>) -> io::Result<()> {
     for line in 38..43u8 {
-        print!(rt; "read line {line} at 0: ")?;
-        print_value(rt, logic, settled.read(logic, stretch, words, line, 0))?;
+        let answer = Answer::from(desk.read(settled, line, 0));
+        println!(rt; "read line {line} at 0: {answer}")?;
     }
     Ok(())
 }
 
 // Reads the first formula at two stages, reopens the sheet, changes an arrow (by mistake to F, then to T), settles the sheet
 // and reads it again.
-fn change<L: Logic>(
-    rt: &HostRuntime,
-    settled: Settled,
-    logic: &L,
-    stretch: &mut [L::Value],
-    words: &[u32],
-) -> io::Result<()> {
-    let (draft, first, second) = twice_read(settled, logic, stretch, words, 1);
-    print!(rt; "read line 1 at 0: ")?;
-    print_value(rt, logic, first)?;
-    print!(rt; "read line 1 at 1: ")?;
-    print_value(rt, logic, second)?;
+fn change<L: Logic>(rt: &HostRuntime, settled: Settled, desk: &mut Desk<'_, L>) -> io::Result<()> {
+    let (draft, (first, second)) = twice_read(settled, desk, 1);
+    println!(rt; "read line 1 at 0: {}", Answer::from(first))?;
+    println!(rt; "read line 1 at 1: {}", Answer::from(second))?;
     println!(rt; "reopen")?;
     print!(rt; "arrow 0 3 value 0, arrow 0 3 value 5, settle: ")?;
-    match entered_twice(draft, logic, stretch, words, 0, 5) {
+    match entered_twice(draft, desk, 0, 5) {
         Ok((again, rounds)) => {
-            println!(rt; "rounds {rounds}")?;
-            read_formulas(rt, &again, logic, stretch, words)?;
-            read_lines(rt, &again, logic, stretch, words)
+            println!(rt; "{}", Answer::Rounds(rounds))?;
+            read_formulas(rt, &again, desk)?;
+            read_lines(rt, &again, desk)
         }
-        Err(why) => print_refusal(rt, why),
+        Err(why) => println!(rt; "{}", Answer::Refused(why)),
     }
 }
 
 // Opens the sheet, enters the plan, settles it, reads it and changes it.
-pub fn play<L: Logic>(
-    rt: &HostRuntime,
-    logic: &L,
-    stretch: &mut [L::Value],
-    words: &mut [u32],
-) -> io::Result<()> {
+pub fn play<L: Logic>(rt: &HostRuntime, desk: &mut Desk<'_, L>) -> io::Result<()> {
     print!(rt; "open 5 stages 3 marks: ")?;
-    let mut draft = match Draft::open(logic, stretch, words, plan::STAGES, plan::MARKS) {
+    let mut draft = match desk.open(plan::STAGES, plan::MARKS) {
         Ok(draft) => draft,
-        Err(why) => return print_refusal(rt, why),
+        Err(why) => return println!(rt; "{}", Answer::Refused(why)),
     };
-    println!(rt; "opened")?;
-    enter_entries(rt, &mut draft, logic, stretch, words, &plan::MODEL)?;
-    enter_formulas(rt, &mut draft, logic, stretch, words)?;
-    enter_entries(rt, &mut draft, logic, stretch, words, &plan::WORDS)?;
-    match draft.settle(logic, stretch, words) {
+    println!(rt; "{}", Answer::Opened)?;
+    enter_entries(rt, &mut draft, desk, &plan::MODEL)?;
+    enter_formulas(rt, &mut draft, desk)?;
+    enter_entries(rt, &mut draft, desk, &plan::WORDS)?;
+    match desk.settle(draft) {
         Ok((settled, rounds)) => {
-            println!(rt; "settle: rounds {rounds}")?;
-            read_formulas(rt, &settled, logic, stretch, words)?;
-            read_lines(rt, &settled, logic, stretch, words)?;
-            change(rt, settled, logic, stretch, words)
+            println!(rt; "settle: {}", Answer::Rounds(rounds))?;
+            read_formulas(rt, &settled, desk)?;
+            read_lines(rt, &settled, desk)?;
+            change(rt, settled, desk)
         }
-        Err((_, why)) => print_refusal(rt, why),
+        Err((_, why)) => println!(rt; "{}", Answer::Refused(why)),
     }
 }

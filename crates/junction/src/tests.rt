@@ -1,11 +1,12 @@
 // What a sheet answers at the edges: each refusal just past its bound, what settling and reading do with damaged memory, and
 // small plans with known answers.
-use crate::entry::{Entry, enter};
+use crate::desk::Desk;
+use crate::entry::Entry;
 use chains::chain::Chain;
 use chains::sets::Sets;
 use compounds::pair::Pair;
 use scale::{Logic, Scale};
-use sheet::{Draft, Refusal, Settled};
+use sheet::{Refusal, Settled};
 use std::test::Fail;
 
 // A reading: a line, a stage and the number of the value that is expected.
@@ -16,106 +17,74 @@ struct Ask {
     number: u32,
 }
 
-fn enter_all<L: Logic>(
-    draft: &mut Draft,
-    logic: &L,
-    stretch: &mut [L::Value],
-    words: &mut [u32],
-    names: &str,
-    entries: &[Entry],
-) -> Result<(), Refusal> {
-    for entry in entries {
-        enter(draft, logic, stretch, words, names, *entry)?;
+// What a call is lent, with one mark's name.
+fn lent<'a, L: Logic>(
+    logic: &'a L,
+    stretch: &'a mut [L::Value],
+    words: &'a mut [u32],
+) -> Desk<'a, L> {
+    Desk {
+        logic,
+        stretch,
+        words,
+        names: "p",
     }
-    Ok(())
 }
 
 // Opens a sheet with one mark, enters a list and settles it.
 fn settled<L: Logic>(
-    logic: &L,
-    stretch: &mut [L::Value],
-    words: &mut [u32],
+    desk: &mut Desk<'_, L>,
     stages: u8,
-    names: &str,
     entries: &[Entry],
 ) -> Result<(Settled, u8), Refusal> {
-    let mut draft = Draft::open(logic, stretch, words, stages, 1)?;
-    enter_all(&mut draft, logic, stretch, words, names, entries)?;
-    match draft.settle(logic, stretch, words) {
+    let mut draft = desk.open(stages, 1)?;
+    for entry in entries {
+        desk.enter(&mut draft, *entry)?;
+    }
+    match desk.settle(draft) {
         Ok(done) => Ok(done),
         Err((_, why)) => Err(why),
     }
 }
 
 // The number of the refusal to open, or 0.
-fn opening<L: Logic>(
-    logic: &L,
-    stretch: &mut [L::Value],
-    words: &mut [u32],
-    stages: u8,
-    marks: u8,
-) -> u8 {
-    match Draft::open(logic, stretch, words, stages, marks) {
+fn opening<L: Logic>(mut desk: Desk<'_, L>, stages: u8, marks: u8) -> u8 {
+    match desk.open(stages, marks) {
         Ok(_) => 0,
         Err(why) => why.number(),
     }
 }
 
 // The count of rounds, or 100 and the number of the first refusal.
-fn rounds<L: Logic>(
-    logic: &L,
-    stretch: &mut [L::Value],
-    words: &mut [u32],
-    stages: u8,
-    names: &str,
-    entries: &[Entry],
-) -> u8 {
-    match settled(logic, stretch, words, stages, names, entries) {
+fn rounds<L: Logic>(desk: &mut Desk<'_, L>, stages: u8, entries: &[Entry]) -> u8 {
+    match settled(desk, stages, entries) {
         Ok((_, count)) => count,
         Err(why) => why.number().saturating_add(100),
     }
 }
 
 // The number of the value read, or 100 and the number of the refusal.
-fn reading<L: Logic>(
-    sheet: &Settled,
-    logic: &L,
-    stretch: &[L::Value],
-    words: &[u32],
-    line: u8,
-    stage: u8,
-) -> u32 {
-    match sheet.read(logic, stretch, words, line, stage) {
-        Ok(value) => logic.number(value).unwrap_or(99),
+fn reading<L: Logic>(desk: &Desk<'_, L>, sheet: &Settled, line: u8, stage: u8) -> u32 {
+    match desk.read(sheet, line, stage) {
+        Ok(number) => number,
         Err(why) => why.number() as u32 + 100,
     }
 }
 
 // How many readings are as expected, before the first that is not.
-fn readings_right<L: Logic>(
-    sheet: &Settled,
-    logic: &L,
-    stretch: &[L::Value],
-    words: &[u32],
-    asks: &[Ask],
-) -> u8 {
-    let mut right: u8 = 0;
-    for ask in asks {
-        if reading(sheet, logic, stretch, words, ask.line, ask.stage) != ask.number {
-            return right;
-        }
-        right = right.saturating_add(1);
-    }
-    right
+fn readings_right<L: Logic>(desk: &Desk<'_, L>, sheet: &Settled, asks: &[Ask]) -> usize {
+    asks.iter()
+        .take_while(|ask| reading(desk, sheet, ask.line, ask.stage) == ask.number)
+        .count()
 }
 
 // How many lines an empty sheet takes, and the number of the refusal of the next.
-fn lines_taken<L: Logic>(logic: &L, stretch: &mut [L::Value], words: &mut [u32]) -> (u8, u8) {
-    let Ok(mut draft) = Draft::open(logic, stretch, words, 1, 0) else {
+fn lines_taken<L: Logic>(mut desk: Desk<'_, L>) -> (u8, u8) {
+    let Ok(mut draft) = desk.open(1, 0) else {
         return (0, 0);
     };
     for count in 0..100u8 {
-        if let Err(why) = draft.line(logic, stretch, words, 0x40000000) {
+        if let Err(why) = desk.enter(&mut draft, Entry::Line(0x40000000)) {
             return (count, why.number());
         }
     }
@@ -127,12 +96,12 @@ fn sizes(rt: HostRuntime) -> Result<(), Fail> {
     let c = Chain::new(3)?;
     let mut stretch = [0u8; 138];
     let mut words = [0u32; 64];
-    assert_eq!(rt; opening(&c, &mut stretch, &mut words, 65, 1), 1);
-    assert_eq!(rt; opening(&c, &mut stretch, &mut words, 0, 1), 1);
-    assert_eq!(rt; opening(&c, &mut stretch, &mut words, 1, 17), 1);
-    assert_eq!(rt; opening(&c, &mut stretch, &mut words, 2, 1), 0);
-    assert_eq!(rt; opening(&c, &mut [0u8; 137], &mut words, 2, 1), 2);
-    assert_eq!(rt; opening(&c, &mut stretch, &mut [0u32; 63], 2, 1), 3);
+    assert_eq!(rt; opening(lent(&c, &mut stretch, &mut words), 65, 1), 1);
+    assert_eq!(rt; opening(lent(&c, &mut stretch, &mut words), 0, 1), 1);
+    assert_eq!(rt; opening(lent(&c, &mut stretch, &mut words), 1, 17), 1);
+    assert_eq!(rt; opening(lent(&c, &mut stretch, &mut words), 2, 1), 0);
+    assert_eq!(rt; opening(lent(&c, &mut [0u8; 137], &mut words), 2, 1), 2);
+    assert_eq!(rt; opening(lent(&c, &mut stretch, &mut [0u32; 63]), 2, 1), 3);
     Ok(())
 }
 
@@ -143,7 +112,7 @@ fn many_values(rt: HostRuntime) -> Result<(), Fail> {
         second: Sets::new(7)?,
     };
     let mut stretch = [p.lowest(); 138];
-    assert_eq!(rt; opening(&p, &mut stretch, &mut [0u32; 64], 2, 1), 10);
+    assert_eq!(rt; opening(lent(&p, &mut stretch, &mut [0u32; 64]), 2, 1), 10);
     Ok(())
 }
 
@@ -152,42 +121,41 @@ fn opening_clears(rt: HostRuntime) -> Result<(), Fail> {
     let c = Chain::new(3)?;
     let mut stretch = [7u8; 138];
     let mut words = [0xFFFFFFFFu32; 64];
-    assert_eq!(rt; opening(&c, &mut stretch, &mut words, 2, 1), 0);
+    assert_eq!(rt; opening(lent(&c, &mut stretch, &mut words), 2, 1), 0);
     assert!(rt; stretch == [0u8; 138]);
     assert!(rt; words == [0u32; 64]);
     Ok(())
 }
 
 // What comes of one entry on a sheet of two stages, in the same numbers.
-fn one_entry<L: Logic>(
-    logic: &L,
-    stretch: &mut [L::Value],
-    words: &mut [u32],
-    names: &str,
-    entry: Entry,
-) -> u8 {
-    rounds(logic, stretch, words, 2, names, &[entry])
+fn one_entry<L: Logic>(desk: &mut Desk<'_, L>, entry: Entry) -> u8 {
+    rounds(desk, 2, &[entry])
 }
 
 #[test]
 fn refused_entries(rt: HostRuntime) -> Result<(), Fail> {
     let c = Chain::new(3)?;
-    let s = &mut [0u8; 138];
-    let w = &mut [0u32; 64];
-    assert_eq!(rt; one_entry(&c, s, w, "p", Entry::Arrow(2, 0, 0)), 104);
-    assert_eq!(rt; one_entry(&c, s, w, "p", Entry::Arrow(0, 2, 0)), 104);
-    assert_eq!(rt; one_entry(&c, s, w, "p", Entry::Mark(0, 1, 0)), 105);
-    assert_eq!(rt; one_entry(&c, s, w, "p", Entry::Arrow(0, 0, 3)), 106);
-    assert_eq!(rt; one_entry(&c, s, w, "p", Entry::Line(0x40900000)), 107);
-    assert_eq!(rt; one_entry(&c, s, w, "p p", Entry::Text("p")), 115);
-    assert_eq!(rt; one_entry(&c, s, w, "p", Entry::Text("E X p")), 116);
+    let (mut stretch, mut words) = ([0u8; 138], [0u32; 64]);
+    let desk = &mut lent(&c, &mut stretch, &mut words);
+    assert_eq!(rt; one_entry(desk, Entry::Arrow(2, 0, 0)), 104);
+    assert_eq!(rt; one_entry(desk, Entry::Arrow(0, 2, 0)), 104);
+    assert_eq!(rt; one_entry(desk, Entry::Mark(0, 1, 0)), 105);
+    assert_eq!(rt; one_entry(desk, Entry::Arrow(0, 0, 3)), 106);
+    assert_eq!(rt; one_entry(desk, Entry::Line(0x40900000)), 107);
+    desk.names = "p p";
+    assert_eq!(rt; one_entry(desk, Entry::Text("p")), 115);
+    desk.names = "p";
+    assert_eq!(rt; one_entry(desk, Entry::Text("E X p")), 116);
     Ok(())
 }
 
 #[test]
 fn sixty_four_lines(rt: HostRuntime) -> Result<(), Fail> {
     let c = Chain::new(2)?;
-    assert_eq!(rt; lines_taken(&c, &mut [0u8; 138], &mut [0u32; 64]), (64, 8));
+    assert_eq!(rt;
+        lines_taken(lent(&c, &mut [0u8; 138], &mut [0u32; 64])),
+        (64, 8)
+    );
     Ok(())
 }
 
@@ -253,12 +221,13 @@ fn two_stages(rt: HostRuntime) -> Result<(), Fail> {
     let c = Chain::new(3)?;
     let mut stretch = [0u8; 138];
     let mut words = [0u32; 64];
-    match settled(&c, &mut stretch, &mut words, 2, "p", &PLAN) {
+    let desk = &mut lent(&c, &mut stretch, &mut words);
+    match settled(desk, 2, &PLAN) {
         Ok((sheet, count)) => {
             assert_eq!(rt; count, 2);
-            assert_eq!(rt; readings_right(&sheet, &c, &stretch, &words, &ASKS), 8);
-            stretch[8] = 3;
-            assert_eq!(rt; reading(&sheet, &c, &stretch, &words, 1, 0), 0);
+            assert_eq!(rt; readings_right(desk, &sheet, &ASKS), 8);
+            desk.stretch[8] = 3;
+            assert_eq!(rt; reading(desk, &sheet, 1, 0), 0);
             Ok(())
         }
         Err(_) => {
@@ -274,19 +243,20 @@ fn damaged_word(rt: HostRuntime) -> Result<(), Fail> {
     let c = Chain::new(3)?;
     let mut stretch = [0u8; 138];
     let mut words = [0u32; 64];
-    let Ok((sheet, _)) = settled(&c, &mut stretch, &mut words, 2, "p", &PLAN) else {
+    let desk = &mut lent(&c, &mut stretch, &mut words);
+    let Ok((sheet, _)) = settled(desk, 2, &PLAN) else {
         assert!(rt; false);
         return Ok(());
     };
-    let draft = sheet.reopen(&c, &stretch, &words);
-    words[1] = 0x40900100;
-    let Err((draft, why)) = draft.settle(&c, &mut stretch, &words) else {
+    let draft = desk.reopen(sheet);
+    desk.words[1] = 0x40900100;
+    let Err((draft, why)) = desk.settle(draft) else {
         assert!(rt; false);
         return Ok(());
     };
     assert_eq!(rt; why.number(), 7);
-    words[1] = 0x40700000;
-    assert!(rt; draft.settle(&c, &mut stretch, &words).is_ok());
+    desk.words[1] = 0x40700000;
+    assert!(rt; desk.settle(draft).is_ok());
     Ok(())
 }
 
@@ -307,22 +277,9 @@ const ROW_BACK: [Entry; 4] = [
 ];
 
 // The rounds that a formula takes on a row of three stages.
-fn row_rounds<L: Logic>(
-    logic: &L,
-    stretch: &mut [L::Value],
-    words: &mut [u32],
-    row: [Entry; 4],
-    text: &'static str,
-) -> u8 {
+fn row_rounds<L: Logic>(desk: &mut Desk<'_, L>, row: [Entry; 4], text: &'static str) -> u8 {
     let [a, b, c, d] = row;
-    rounds(
-        logic,
-        stretch,
-        words,
-        3,
-        "p",
-        &[a, b, c, d, Entry::Text(text)],
-    )
+    rounds(desk, 3, &[a, b, c, d, Entry::Text(text)])
 }
 
 #[test]
@@ -330,12 +287,10 @@ fn three_stages(rt: HostRuntime) -> Result<(), Fail> {
     let c = Chain::new(2)?;
     let mut stretch = [0u8; 210];
     let mut words = [0u32; 64];
-    assert_eq!(rt; row_rounds(&c, &mut stretch, &mut words, ROW, "EF p"), 3);
-    assert_eq!(rt;
-        row_rounds(&c, &mut stretch, &mut words, ROW_BACK, "EF p"),
-        3
-    );
-    assert_eq!(rt; row_rounds(&c, &mut stretch, &mut words, ROW, "EF F"), 0);
-    assert_eq!(rt; row_rounds(&c, &mut stretch, &mut words, ROW, "EF T"), 1);
+    let desk = &mut lent(&c, &mut stretch, &mut words);
+    assert_eq!(rt; row_rounds(desk, ROW, "EF p"), 3);
+    assert_eq!(rt; row_rounds(desk, ROW_BACK, "EF p"), 3);
+    assert_eq!(rt; row_rounds(desk, ROW, "EF F"), 0);
+    assert_eq!(rt; row_rounds(desk, ROW, "EF T"), 1);
     Ok(())
 }
