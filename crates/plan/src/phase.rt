@@ -30,7 +30,7 @@ pub enum Halt {
     Word,
     // a call of the sheet is refused
     Sheet(sheet::Refusal),
-    // there is no memory for what is printed
+    // there was no memory for what is printed
     Memory(AllocError),
 }
 

@@ -72,6 +72,7 @@ fn play<L: Logic>(
 {
     let mut rest = plan;
     let mut phase = Phase::Draft(draft);
+    // by a pattern and not by an iterator: a plan is taken as its first word and the rest
     'words: while let [word, words @ ..] = rest.words {
         phase = match phase.step(logic, desk, Kind::of(*word)) {
             Ok(next) => next,

@@ -28,7 +28,7 @@ impl Refusal {
         self as u8
     }
 
-    // The name that reports give.
+    // The name that reports give. (`Debug` writes the same names, but lends none.)
     pub fn name(self) -> &'static str
         ensures { result.now ≡ refusal_name self }
     {

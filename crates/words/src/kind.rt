@@ -46,26 +46,31 @@ fn only_if_zero(unused: u32, kind: Kind) -> Option<Kind>
     if unused == 0 { Some(kind) } else { None }
 }
 
+// The three fields of an arrow, a mark or an ask: bits 27 to 20, 19 to 12 and 11 to 0.
+fn fields(word: u32) -> (u8, u8, u32)
+    ensures { result ≡ (field 20 8 word, field 12 8 word, field 0 12 word) }
+{
+    (byte(word, 20), byte(word, 12), bits(word, 0, 12))
+}
+
 impl Entry {
     // The entry of an arrow word.
     fn arrow(word: u32) -> Entry
         ensures { result ≡ arrow_of word }
     {
-        Entry::Arrow {
-            from: byte(word, 20),
-            to: byte(word, 12),
-            number: bits(word, 0, 12),
-        }
+        let (from, to, number) = fields(word);
+        Entry::Arrow { from, to, number }
     }
 
     // The entry of a mark word.
     fn mark(word: u32) -> Entry
         ensures { result ≡ mark_of word }
     {
+        let (stage, mark, number) = fields(word);
         Entry::Mark {
-            stage: byte(word, 20),
-            mark: byte(word, 12),
-            number: bits(word, 0, 12),
+            stage,
+            mark,
+            number,
         }
     }
 }
@@ -84,9 +89,8 @@ impl Kind {
     fn ask(word: u32) -> Option<Kind>
         ensures { result ≡ ask_of word }
     {
-        let line = byte(word, 20);
-        let stage = byte(word, 12);
-        only_if_zero(bits(word, 0, 12), Kind::Ask { line, stage })
+        let (line, stage, unused) = fields(word);
+        only_if_zero(unused, Kind::Ask { line, stage })
     }
 
     // What a word is, or none where no kind has its number, or a bit that its kind does not use is set.
