@@ -5,7 +5,7 @@ ghost use Rattle.compounds.specs.PairLaws.{pair_lawful, pair_opposed};
 use crate::halves::{Half, cut_half, product};
 use scale::{Logic, Scale};
 
-// A value of a pair, part by part.
+// A value of a pair, part by part. Its type is not that of a twist's values, so that neither passes for the other.
 #[derive(Clone, Copy)]
 pub struct PairValue<A, B> {
     pub first: A,

@@ -13,6 +13,7 @@ pub struct TwistValue<V> {
 }
 
 // The twist over a scale: a logic, though the scale beneath need have no opposite. Any scale makes one.
+// It works as the pair of the scale and its dual would, but holds the scale once, and a pair holds both its parts.
 #[derive(Drop)]
 pub struct Twist<S> {
     pub scale: S,
