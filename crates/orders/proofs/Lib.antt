@@ -1,4 +1,5 @@
 pub mod Finites
+pub mod Ranges
 pub mod Bits
 pub mod Greatest
 pub mod Readings

@@ -2,6 +2,6 @@
 #![tactic(auto)]
 
 pub mod candidate;
-mod law;
 pub mod order;
+pub mod place;
 mod words;
