@@ -63,7 +63,7 @@ impl Candidate {
     }
 
     // The opposite that is written for a value.
-    fn opposite(&self, v: Place) -> Place
+    pub fn opposite(&self, v: Place) -> Place
         ensures { result.number ≡ listed self.now.opposites v.number }
     {
         Place::from(self.opposites[v.index()])
