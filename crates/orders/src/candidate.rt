@@ -3,7 +3,8 @@ ghost use Rattle.orders.specs.Finite.{Filled};
 ghost use Rattle.orders.specs.Orders.{implies as implies_test, under, meet_of, join_of, highest_of, lowest_of, irreducible, ceiling_of, order_at, bounded_at, spread_at, opposed_at, irreducible_at, listed, reversed_rows, cell_of};
 ghost use Rattle.orders.specs.Words.{readable, rows_of, opposites_of, law_verdict};
 
-use crate::order::{Order, cell};
+use crate::operation::Operation;
+use crate::order::Order;
 use crate::place::Place;
 use crate::words::{are_readable, read_opposites, read_rows};
 use scale::Refusal;
@@ -15,13 +16,13 @@ pub struct Candidate {
     pub order: Order,
     pub reverse: Order,
     pub opposites: [u8; 16],
-    pub meets: [u8; 256],
-    pub joins: [u8; 256],
+    pub meets: Operation,
+    pub joins: Operation,
     ghost counted: { reverse.count ≡ order.count },
     ghost turns: { reversed_rows order.rows reverse.rows ≡ true },
     ghost small: { (k : ℕ) → slice_index opposites k < 16 },
-    ghost met: { Filled (cell_of (meet_of order.count (under order.rows))) 256 meets },
-    ghost joined: { Filled (cell_of (join_of order.count (under order.rows))) 256 joins },
+    ghost met: { Filled (cell_of (meet_of order.count (under order.rows))) 256 meets.cells },
+    ghost joined: { Filled (cell_of (join_of order.count (under order.rows))) 256 joins.cells },
 }
 
 impl Candidate {
@@ -52,14 +53,14 @@ impl Candidate {
     fn meet(&self, u: Place, v: Place) -> Place
         ensures { result.number ≡ meet_of self.now.order.count (under self.now.order.rows) u.number v.number }
     {
-        Place::from(cell(&self.meets, u.number, v.number))
+        Place::from(self.meets.at(u.number, v.number))
     }
 
     // The join of two values.
     fn join(&self, u: Place, v: Place) -> Place
         ensures { result.number ≡ join_of self.now.order.count (under self.now.order.rows) u.number v.number }
     {
-        Place::from(cell(&self.joins, u.number, v.number))
+        Place::from(self.joins.at(u.number, v.number))
     }
 
     // The opposite that is written for a value.

@@ -1,7 +1,8 @@
-ghost use Rattle.std.specs.Prelude.{◌≡◌, ℕ, ◌+◌, ◌*◌, ◌%◌, ◌<◌, ◌≤◌, Bool, true, slice_index};
+ghost use Rattle.std.specs.Prelude.{◌≡◌, ℕ, ◌%◌, ◌<◌, ◌≤◌, Bool, true};
 ghost use Rattle.orders.specs.Finite.{Filled, every, every_pair, every_triple};
 ghost use Rattle.orders.specs.Orders.{member, under, below_both, is_greatest, greatest_of, highest_of, meet_of, reversed_rows, cell_of};
 
+use crate::operation::Operation;
 use crate::place::Place;
 use std::array;
 
@@ -20,13 +21,6 @@ pub fn is_member(values: u16, v: u8) -> bool
     ensures { result ≡ member values (v % 16) }
 {
     (values >> (v % 16)) % 2 == 1
-}
-
-// The cell of row u and column v, of 16 rows of 16; a number past 15 is taken modulo 16.
-pub fn cell(cells: &[u8; 256], u: u8, v: u8) -> u8
-    ensures { result ≡ slice_index cells.now ((u % 16) * 16 + v % 16) }
-{
-    cells[Place::from(u).index() * 16 + Place::from(v).index()]
 }
 
 impl Order {
@@ -82,11 +76,13 @@ impl Order {
         self.greatest(self.below(u, v))
     }
 
-    // The meets of all values, 16 rows of 16.
-    pub(crate) fn meets(&self) -> [u8; 256]
-        ensures { Filled (cell_of (meet_of self.now.count (under self.now.rows))) 256 result }
+    // The meets of all values.
+    pub(crate) fn meets(&self) -> Operation
+        ensures { Filled (cell_of (meet_of self.now.count (under self.now.rows))) 256 result.cells }
     {
-        array::from_fn(|k| self.meet(Place::from(k / 16), Place::from(k % 16)))
+        Operation {
+            cells: array::from_fn(|k| self.meet(Place::from(k / 16), Place::from(k % 16))),
+        }
     }
 
     // The set of the values at or above u.
@@ -94,6 +90,7 @@ impl Order {
         ensures { (v : ℕ) → v < 16 → member result v ≡ under self.now.rows u.number v }
     {
         let mut values = 0u16;
+        // a fold over the values would pass the set from call to call, and be no plainer
         for v in 0..16u8 {
             if self.leq(u, Place::from(v)) {
                 values |= 1 << v;

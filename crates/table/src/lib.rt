@@ -17,12 +17,13 @@ mod cuts;
 use crate::cuts::{Cut, cuts_of};
 use arrayvec::ArrayVec;
 use orders::candidate::Candidate;
-use orders::order::{Order, cell, is_member};
+use orders::operation::Operation;
+use orders::order::{Order, is_member};
 use orders::place::Place;
 use scale::{Logic, Refusal, Scale};
 
 // A logic of 2 to 16 values. Row v is the set of the values at or below v, value u being bit u.
-// Whatever table there is, its relation is a distributive lattice with opposites, and its other arrays are what the relation has:
+// Whatever table there is, its relation is a distributive lattice with opposites, and its other fields are what the relation has:
 // the meet and the join of u and v stand in cell 16 u + v, the cuts are in the order of their values.
 // The type has its arrays and their facts itself, and takes no whole `Candidate`, of which no law is known.
 #[derive(Drop)]
@@ -30,8 +31,8 @@ pub struct Table {
     count: u8,
     rows: [u16; 16],
     opposites: [u8; 16],
-    meets: [u8; 256],
-    joins: [u8; 256],
+    meets: Operation,
+    joins: Operation,
     lowest: u8,
     highest: u8,
     cuts: ArrayVec<Cut, 16>,
@@ -41,8 +42,8 @@ pub struct Table {
     ghost lattice: { latticed count (under rows) ≡ true },
     ghost distribution: { spread count (under rows) ≡ true },
     ghost opposition: { opposing count (under rows) (listed opposites) ≡ true },
-    ghost met: { Filled (cell_of (meet_of count (under rows))) 256 meets },
-    ghost joined: { Filled (cell_of (join_of count (under rows))) 256 joins },
+    ghost met: { Filled (cell_of (meet_of count (under rows))) 256 meets.cells },
+    ghost joined: { Filled (cell_of (join_of count (under rows))) 256 joins.cells },
     ghost bottom: { lowest ≡ lowest_of count (under rows) },
     ghost top: { highest ≡ highest_of count (under rows) },
     ghost cut: { cuts.items ≡ listed_cuts count (under rows) (listed opposites) },
@@ -127,11 +128,11 @@ impl Scale for Table {
     }
 
     fn meet_values(&self, u: u8, v: u8) -> u8 {
-        cell(&self.meets, u, v)
+        self.meets.at(u, v)
     }
 
     fn join_values(&self, u: u8, v: u8) -> u8 {
-        cell(&self.joins, u, v)
+        self.joins.at(u, v)
     }
 
     fn leq_values(&self, u: u8, v: u8) -> bool {

@@ -10,5 +10,5 @@ returns c =
     let le = under s.order.rows in
     let u = c.args.u in
     let v = c.args.v in
-    let is = c.cell.ensures ∙ cell_read (join_of n le) s.joins u.number v.number u.small v.small s.joined in
+    let is = c.at.ensures ∙ cell_read (join_of n le) s.joins.cells u.number v.number u.small v.small s.joined in
     omega (arith, c.from.ensures, is, join_less n le u.number v.number (omega (arith, s.order.least)), s.order.most)
