@@ -1,9 +1,9 @@
 -- Sets as numbers, bit by bit.
-use Rattle.std.proofs.Common.{◌≡◌, ℕ, ◌+◌, ◌-◌, ◌*◌, ◌/◌, ◌%◌, ◌^◌, ◌<◌, ◌≤◌, min, Bool, true, false, not, ◌&&◌, eqb, w16, sym, refl, ap, ◌∙◌, inl, inr, arith}
+use Rattle.std.proofs.Common.{◌≡◌, ℕ, ◌-◌, ◌*◌, ◌/◌, ◌%◌, ◌^◌, ◌<◌, min, Bool, true, false, not, ◌&&◌, ◌||◌, eqb, w16, sym, refl, ap, ◌∙◌, inl, inr, arith}
 use lib.Bits.{bit_and, bit_or, and_le_l, mask_lt}
-use Rattle.std.proofs.lemmas.Nat.Bits.{bit_at-lt, bit_at_and, bit_at_not, bit_at_ones, bit_at_set_same, bit_at_set_other, same_from_bits_below}
+use Rattle.std.proofs.lemmas.Nat.Bits.{bit_at-lt, bit_at-zero, bit_at_and, bit_at_not, bit_at_ones, bit_at_set_same, bit_at_set_other, same_from_bits_below}
 use Rattle.std.proofs.lemmas.Bool.Decides.{nat_tests}
-use Rattle.std.proofs.lemmas.Bool.{and_parts, eqb-true, eq-eqb, cases_eq}
+use Rattle.std.proofs.lemmas.Bool.{and_parts, eqb-true, eq-eqb, ne_eqb, or_right, cases_eq}
 use Rattle.scale.proofs.Bools.{same_test, and_so}
 use Rattle.orders.specs.Finite.{every}
 use Rattle.orders.specs.Orders.{member, implies}
@@ -54,27 +54,17 @@ all_in n a b =
     member_and k b v
     ∙ and_so (member k v) (member b v) (λ m. so (member a v) (member b v) (every_all (λ v. implies (member a v) (member b v)) n t v h) (sym (kept v h) ∙ m)))))
 
--- s has the numbers below i that f holds of, and no other
-pub record Holds (f : ℕ → Bool) (s i : ℕ) : Type 0 where
-  pub low : (v : ℕ) → v < i → member s v ≡ f v
-  pub high : (v : ℕ) → i ≤ v → member s v ≡ false
+pub no_member : (v : ℕ) → member 0 v ≡ false
+no_member v = ap (λ x. eqb x 1) (bit_at-zero v)
 
--- one number more
-module _ (f : ℕ → Bool) (s i : ℕ) (h : Holds f s i) where
-  pub add_member : i < 16 → f i ≡ true → Holds f (bit_or s (1 * 2 ^ i % 65536)) (i + 1)
-  add_member l e =
-      let other : (v : ℕ) → (v ≡ i → ⊥) → member (bit_or s (1 * 2 ^ i % 65536)) v ≡ member s v = λ v n. ap (λ x. eqb x 1) (bit_at_set_other w16 s i l v n) in
-      record {
-        low = λ v k.
-            elim (cases_eq v i) [
-              | inl q ↦ ap (member (bit_or s (1 * 2 ^ i % 65536))) q ∙ ap (λ x. eqb x 1) (bit_at_set_same w16 s i l) ∙ sym e ∙ ap f (sym q)
-              | inr q ↦ other v q ∙ h.low v (omega arith)
-            ];
-        high = λ v k. other v (λ q. omega arith) ∙ h.high v (omega arith);
-      }
-
-  pub keep_members : f i ≡ false → Holds f s (i + 1)
-  keep_members e = record {
-    low = λ v k. elim (cases_eq v i) [ inl q ↦ ap (member s) q ∙ h.high i (omega arith) ∙ sym e ∙ ap f (sym q) | inr q ↦ h.low v (omega arith) ];
-    high = λ v k. h.high v (omega arith);
-  }
+-- one member more, of a set of 16
+pub one_more : (a x v : ℕ) → x < 16 → member (bit_or a (1 * 2 ^ x % 65536)) v ≡ (member a v || eqb x v)
+one_more a x v h =
+    elim (cases_eq v x) [
+      | inl q ↦ ap (member (bit_or a (1 * 2 ^ x % 65536))) q ∙ ap (λ y. eqb y 1) (bit_at_set_same w16 a x h) ∙ sym (or_right (member a v) (eqb x v) (eq-eqb x v (sym q)))
+      | inr q ↦ ap (λ y. eqb y 1) (bit_at_set_other w16 a x h v q) ∙ sym (or_same (member a v) (eqb x v) (ne_eqb x v (λ e. q (sym e))))
+    ]
+  where
+    or_same : (p q : Bool) → q ≡ false → (p || q) ≡ p
+    or_same true q e = refl
+    or_same false q e = e

@@ -1,11 +1,12 @@
 -- Tests of the numbers below n, and the chains of iterators that make them.
-use Rattle.std.proofs.Common.{◌≡◌, ℕ, zero, suc, ◌+◌, ◌<◌, ◌≤◌, Bool, true, false, cond, ◌&&◌, List, [], ◌∷◌, length, get_or, Some, Option, sym, refl, ap, ◌∙◌, subst, inl, inr, arith}
-use Rattle.std.specs.List.{range_with_len, list_all, find}
+use Rattle.std.proofs.Common.{◌≡◌, ℕ, zero, suc, ◌+◌, ◌<◌, ◌≤◌, Bool, true, false, cond, ◌&&◌, List, [], ◌∷◌, ◌++◌, length, get_or, Some, Option, sym, refl, ap, ◌∙◌, subst, inl, inr, arith}
+use Rattle.std.specs.List.{range_with_len, list_all, find, FoldsTo}
 use Rattle.std.specs.Option.{unwrap_or}
 use Rattle.std.proofs.iter.runs.Sources.{nat_range_steps_back}
-use Rattle.std.specs.Iterator.{AlwaysYields}
+use Rattle.std.specs.Iterator.{AlwaysYields, Drains}
 use Rattle.std.specs.declared.ops.Range.{Range}
 use Rattle.std.proofs.lemmas.List.FromFn.{length-range_with_len, get_or-range_with_len}
+use Rattle.std.proofs.lemmas.Fn.{fold_over}
 use Rattle.std.proofs.lemmas.Iterator.{YieldsList}
 use Rattle.std.specs.Array.{IsFromFnResult, IsFromFnResultFrom}
 use Rattle.std.specs.Fn.{Called}
@@ -73,3 +74,7 @@ module _ {F B : Type 0} {g : Mut F (ℕ × Unit {0}) B} {f : F} (R : ℕ → B �
 
   pub entries_from_fn : (ys : List B) (d : B) (n : ℕ) → IsFromFnResult g f ys n → ((k : ℕ) (y : B) (q : F) → k < n → Called g f (k, tt) y q → (q ≡ f) × R k y) → (k : ℕ) → k < n → R k (get_or ys k d)
   entries_from_fn ys d n h step k l = entries_from ys d 0 n (λ k y q l. step k y q (omega arith)) h.each k (omega arith) (omega arith)
+
+-- `fold`, by what holds of the items so far
+pub fold_listed : {S A B F C : Type 0} {steps : S → Option A → S → Type 0} {v : A → B} {g : Mut F (C × (A × Unit {0})) C} {f : F} {s : S} {init r : C} {all : List B} (J : List B → C → Type 0) (xs : List A) (f' : F) → Drains steps s xs → FoldsTo {P = F × C} (λ p x q. Called g p.0 (p.1, (x, tt)) q.1 q.0) (f, init) xs (f', r) → YieldsList steps v s all → J [] init → ((ys : List B) (a : C) (x : A) (b : C) (q : F) → J ys a → Called g f (a, (x, tt)) b q → J (ys ++ (v x ∷ [])) b × (q ≡ f)) → J all r
+fold_listed {steps = steps} {v} {g} {f} {s} {init} {r} {all} J xs f' drains folds road start step = fold_over steps v g J f step s all init r road.runs start (xs, f', drains, folds)

@@ -89,14 +89,9 @@ impl Order {
     pub(crate) fn above(&self, u: Place) -> u16
         ensures { (v : ℕ) → v < 16 → member result v ≡ under self.now.rows u.number v }
     {
-        let mut values = 0u16;
-        // a fold over the values would pass the set from call to call, and be no plainer
-        for v in 0..16u8 {
-            if self.leq(u, Place::from(v)) {
-                values |= 1 << v;
-            }
-        }
-        values
+        (0..16u8)
+            .filter(|v| self.leq(u, Place::from(*v)))
+            .fold(0, |values, v| values | 1 << v)
     }
 
     // The relation turned round, "at or above".
