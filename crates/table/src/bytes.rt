@@ -10,6 +10,7 @@ pub fn words_of(heap: Global, bytes: &[u8]) -> Result<Vec<u32>, AllocError>
 {
     let mut words = Vec::new(heap);
     let mut rest = bytes;
+    // a pattern takes the four bytes by name, where a chunk of `chunks_exact` would be read by index
     'words: while let [a, b, c, d, more @ ..] = rest {
         words.push(u32::from_le_bytes([*a, *b, *c, *d]))?;
         rest = more;
