@@ -1,7 +1,8 @@
 -- Sets as numbers, bit by bit.
-use Rattle.std.proofs.Common.{◌≡◌, ℕ, ◌-◌, ◌*◌, ◌/◌, ◌%◌, ◌^◌, ◌<◌, min, Bool, true, false, not, ◌&&◌, ◌||◌, eqb, w16, sym, refl, ap, ◌∙◌, inl, inr, arith}
+use Rattle.std.proofs.Common.{◌≡◌, ℕ, ◌-◌, ◌*◌, ◌/◌, ◌%◌, ◌^◌, ◌<◌, min, true, false, not, ◌&&◌, ◌||◌, eqb, w16, sym, refl, ap, ◌∙◌, inl, inr, arith}
 use lib.Bits.{bit_and, bit_or, and_le_l, mask_lt}
 use Rattle.std.proofs.lemmas.Nat.Bits.{bit_at-lt, bit_at-zero, bit_at_and, bit_at_not, bit_at_ones, bit_at_set_same, bit_at_set_other, same_from_bits_below}
+use Rattle.std.proofs.Math.Bool.{or-false}
 use Rattle.std.proofs.lemmas.Bool.Decides.{nat_tests}
 use Rattle.std.proofs.lemmas.Bool.{and_parts, eqb-true, eq-eqb, ne_eqb, or_right, cases_eq}
 use Rattle.scale.proofs.Bools.{same_test, and_so}
@@ -62,9 +63,5 @@ pub one_more : (a x v : ℕ) → x < 16 → member (bit_or a (1 * 2 ^ x % 65536)
 one_more a x v h =
     elim (cases_eq v x) [
       | inl q ↦ ap (member (bit_or a (1 * 2 ^ x % 65536))) q ∙ ap (λ y. eqb y 1) (bit_at_set_same w16 a x h) ∙ sym (or_right (member a v) (eqb x v) (eq-eqb x v (sym q)))
-      | inr q ↦ ap (λ y. eqb y 1) (bit_at_set_other w16 a x h v q) ∙ sym (or_same (member a v) (eqb x v) (ne_eqb x v (λ e. q (sym e))))
+      | inr q ↦ ap (λ y. eqb y 1) (bit_at_set_other w16 a x h v q) ∙ sym (ap (λ t. member a v || t) (ne_eqb x v (λ e. q (sym e))) ∙ or-false (member a v))
     ]
-  where
-    or_same : (p q : Bool) → q ≡ false → (p || q) ≡ p
-    or_same true q e = refl
-    or_same false q e = e

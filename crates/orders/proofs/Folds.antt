@@ -2,9 +2,11 @@
 use Rattle.std.proofs.Common.{◌≡◌, ℕ, zero, suc, ◌+◌, ◌*◌, ◌%◌, ◌^◌, ◌<◌, ◌≤◌, Bool, true, false, cond, ◌&&◌, ◌||◌, eqb, ltb, List, [], ◌∷◌, ◌++◌, sym, refl, ap, ◌∙◌, inl, inr, arith}
 use lib.Bits.{bit_or}
 use Rattle.std.specs.List.{range_with_len, filter, list_any, list_all}
+use Rattle.std.proofs.Math.Bool.{or-false}
 use Rattle.std.proofs.lemmas.Bool.{and_parts, and_from, cases_eq, eq-eqb, eqb-true, ltb-true, lt-ltb, or_left, or_right}
 use Rattle.std.proofs.lemmas.List.Folds.{list_any-append, list_all-append}
 use Rattle.std.proofs.lemmas.Map.Views.{any-filter_same}
+use Rattle.scale.proofs.Bools.{and_true}
 use Rattle.orders.specs.Orders.{member}
 use Rattle.orders.proofs.Bits.{no_member, one_more}
 
@@ -23,11 +25,7 @@ module _ (v : ℕ) where
       ap (λ s. member s v) is
       ∙ one_more a x v small
       ∙ ap (λ t. t || eqb x v) (h w.0)
-      ∙ sym (list_any-append (λ y. eqb y v) ys (x ∷ []) ∙ ap (λ t. list_any (λ y. eqb y v) ys || t) (or_end (eqb x v)))
-    where
-      or_end : (p : Bool) → (p || false) ≡ p
-      or_end true = refl
-      or_end false = refl
+      ∙ sym (list_any-append (λ y. eqb y v) ys (x ∷ []) ∙ ap (λ t. list_any (λ y. eqb y v) ys || t) (or-false (eqb x v)))
 
 module _ (P : ℕ → Bool) where
   all_small : (a n : ℕ) → a + n ≤ 16 → list_all (λ y. ltb y 16) (filter P (range_with_len a n)) ≡ true
@@ -51,9 +49,4 @@ module _ (P : ℕ → Bool) where
   collected n v set most h e =
       e (all_small 0 n (omega arith))
       ∙ any-filter_same (λ y. eqb y v) P (P v) (λ k t. ap P (eqb-true k v t)) (range_with_len 0 n)
-      ∙ ap (λ t. P v && t) (in_range 0 n v (omega arith) (omega arith))
-      ∙ and_end (P v)
-    where
-      and_end : (p : Bool) → (p && true) ≡ p
-      and_end true = refl
-      and_end false = refl
+      ∙ and_true (P v) (list_any (λ y. eqb y v) (range_with_len 0 n)) (in_range 0 n v (omega arith) (omega arith))

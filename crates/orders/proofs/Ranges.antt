@@ -12,20 +12,14 @@ use Rattle.std.specs.Array.{IsFromFnResult, IsFromFnResultFrom}
 use Rattle.std.specs.Fn.{Called}
 use denote.Param.Members.{Mut}
 use Rattle.std.proofs.lemmas.Bool.{cases_eq}
+use Rattle.std.proofs.Math.Bool.{and_assoc}
+use Rattle.scale.proofs.Bools.{and_true}
 use Rattle.orders.specs.Finite.{every, pick}
 use Rattle.orders.proofs.Finites.{every_same}
 
 every_first : (P : ℕ → Bool) (n : ℕ) → every (suc n) P ≡ (P 0 && every n (λ k. P (suc k)))
-every_first P zero = end (P 0)
-  where
-    end : (x : Bool) → (true && x) ≡ (x && true)
-    end true = refl
-    end false = refl
+every_first P zero = sym (and_true (P 0) true refl)
 every_first P (suc n) = ap (λ b. b && P (suc n)) (every_first P n) ∙ and_assoc (P 0) (every n (λ k. P (suc k))) (P (suc n))
-  where
-    and_assoc : (x y z : Bool) → ((x && y) && z) ≡ (x && (y && z))
-    and_assoc true y z = refl
-    and_assoc false y z = refl
 
 -- `all` over a list
 pub every_item : (test : ℕ → Bool) (xs : List ℕ) → list_all test xs ≡ every (length xs) (λ k. test (get_or xs k 0))

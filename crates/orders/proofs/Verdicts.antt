@@ -12,11 +12,7 @@ said o l d x = first_failing ((o, Order) ∷ (l, Lattice) ∷ (d, Distribution) 
 module _ (n : ℕ) (rows opposites : List ℕ) where
   pub tried : (o l d x : Bool) → o ≡ ordered n (under rows) → l ≡ latticed n (under rows) → d ≡ spread n (under rows) → x ≡ opposing n (under rows) (listed opposites) → said o l d x ≡ law_verdict n rows opposites
   unfolding law_verdict
-  tried o l d x eo el ed ex =
-      ap (λ b. said b l d x) eo
-      ∙ ap (λ b. said (ordered n (under rows)) b d x) el
-      ∙ ap (λ b. said (ordered n (under rows)) (latticed n (under rows)) b x) ed
-      ∙ ap (said (ordered n (under rows)) (latticed n (under rows)) (spread n (under rows))) ex
+  tried o l d x eo el ed ex = rw (eo, el, ed, ex) refl
 
   -- where none fails, all hold
   pub passed : law_verdict n rows opposites ≡ Ok tt → (ordered n (under rows) ≡ true) × (latticed n (under rows) ≡ true) × (spread n (under rows) ≡ true) × (opposing n (under rows) (listed opposites) ≡ true)
@@ -44,8 +40,4 @@ verdict_read words n rows opposites e en er eo =
 -- laws that all hold refuse nothing
 pub none_fails : (n : ℕ) (rows opposites : List ℕ) → ordered n (under rows) ≡ true → latticed n (under rows) ≡ true → spread n (under rows) ≡ true → opposing n (under rows) (listed opposites) ≡ true → law_verdict n rows opposites ≡ Ok tt
 unfolding law_verdict
-none_fails n rows opposites o l d x =
-    ap (λ b. said b (latticed n (under rows)) (spread n (under rows)) (opposing n (under rows) (listed opposites))) o
-    ∙ ap (λ b. said true b (spread n (under rows)) (opposing n (under rows) (listed opposites))) l
-    ∙ ap (λ b. said true true b (opposing n (under rows) (listed opposites))) d
-    ∙ ap (said true true true) x
+none_fails n rows opposites o l d x = rw (o, l, d, x) refl
