@@ -1,6 +1,5 @@
--- Tests of the numbers below n: what each says, and one turn of a loop that makes it.
-use Rattle.std.proofs.Common.{◌≡◌, ℕ, zero, suc, ◌+◌, ◌<◌, ◌≤◌, Bool, true, false, cond, ◌&&◌, eqb, ◌⊎◌, List, length, get_or, set, sym, refl, ap, ◌∙◌, subst, inl, inr, add-one, arith}
-use Rattle.std.proofs.lemmas.List.{get_or-set_same, get_or-set_other}
+-- Tests of the numbers below n: what each says.
+use Rattle.std.proofs.Common.{◌≡◌, ℕ, zero, suc, ◌+◌, ◌<◌, ◌≤◌, Bool, true, false, cond, ◌&&◌, eqb, ◌⊎◌, sym, refl, ap, ◌∙◌, inl, inr, arith}
 use Rattle.std.proofs.lemmas.Bool.{and_parts, and_from, and_cases, cases_eq, cases_lt, cases_Bool, both_ways, eq-eqb, ne_eqb, cond-true, cond-false, and_left, and_right, or_left, or_right, or_from}
 use Rattle.orders.specs.Finite.{every, some, pick, how_many, nth}
 use Rattle.orders.specs.Orders.{implies, alike}
@@ -44,34 +43,6 @@ module _ (P : ℕ → Bool) where
         | inr e ↦ (n, omega arith, e)
       ]
 
-  every_fails : (n i : ℕ) → i < n → P i ≡ false → every n P ≡ false
-  every_fails zero i h e = absurd (omega arith)
-  every_fails (suc n) i h e =
-      elim (cases_eq i n) [
-        | inl q ↦ and_right (every n P) (P n) (sym (ap P q) ∙ e)
-        | inr q ↦ and_left (every n P) (P n) (every_fails n i (omega arith) e)
-      ]
-
-  -- one turn, the stop and the end of a loop that tests each number
-  pub every_turn : (i : ℕ) (r : Bool) → every i P ≡ true → r ≡ P i → r ≡ true → every (i + 1) P ≡ true
-  every_turn i r h e t = rw add-one (and_from (every i P) (P i) h (sym e ∙ t))
-
-  pub every_stop : (n i : ℕ) (r : Bool) → i < n → r ≡ P i → r ≡ false → false ≡ every n P
-  every_stop n i r h e t = sym (every_fails n i h (sym e ∙ t))
-
-  pub every_done : (n i : ℕ) → n ≤ i → i ≤ n → every i P ≡ true → true ≡ every n P
-  every_done n i h k e = let q : i ≡ n = omega arith in sym (ap (λ x. every x P) (sym q) ∙ e)
-
-  -- a loop that looks for the last number
-  pub pick_yes : (i m : ℕ) (r : Bool) → m ≡ i → r ≡ P i → r ≡ true → m ≡ pick (i + 1) P
-  pick_yes i m r h e t = rw add-one (h ∙ sym (cond-true (P i) i (pick i P) (sym e ∙ t)))
-
-  pub pick_no : (i m o : ℕ) (r : Bool) → m ≡ o → o ≡ pick i P → r ≡ P i → r ≡ false → m ≡ pick (i + 1) P
-  pick_no i m o r h k e t = rw add-one (h ∙ k ∙ sym (cond-false (P i) i (pick i P) (sym e ∙ t)))
-
-  pub pick_done : (n i m : ℕ) → n ≤ i → i ≤ n → m ≡ pick i P → m ≡ pick n P
-  pick_done n i m h k e = let q : i ≡ n = omega arith in e ∙ ap (λ x. pick x P) q
-
   -- where there is such a number, it is one
   pub pick_is : (n i : ℕ) → i < n → P i ≡ true → (pick n P < n) × (P (pick n P) ≡ true)
   pick_is zero i h e = absurd (omega arith)
@@ -85,7 +56,7 @@ module _ (P : ℕ → Bool) where
             (omega (arith, w.0), ap P q ∙ w.1)
       ]
 
-  pick_none : (n : ℕ) → ((i : ℕ) → i < n → P i ≡ false) → pick n P ≡ 0
+  pub pick_none : (n : ℕ) → ((i : ℕ) → i < n → P i ≡ false) → pick n P ≡ 0
   pick_none zero f = refl
   pick_none (suc n) f = cond-false (P n) n (pick n P) (f n (omega arith)) ∙ pick_none n (λ i h. f i (omega arith))
 
@@ -98,7 +69,7 @@ module _ (P : ℕ → Bool) where
       ]
 
   -- some number passes, or none does
-  some_or : (n : ℕ) → ((i : ℕ) × (i < n) × (P i ≡ true)) ⊎ ((some n P ≡ false) × ((i : ℕ) → i < n → P i ≡ false))
+  pub some_or : (n : ℕ) → ((i : ℕ) × (i < n) × (P i ≡ true)) ⊎ ((some n P ≡ false) × ((i : ℕ) → i < n → P i ≡ false))
   some_or zero = inr (refl, λ i h. absurd (omega arith))
   some_or (suc n) =
       elim (cases_Bool (P n)) [
@@ -221,11 +192,3 @@ module _ (P Q : ℕ → Bool) where
               | inr y ↦ omega (arith, how_many_no P n y, how_many_step Q n)
             ]
       ]
-
--- a loop that writes an entry at each place
-pub fill_more : (R : ℕ → ℕ → Type 0) (xs : List ℕ) (i x : ℕ) → i < length xs → R i x → ((k : ℕ) → k < i → R k (get_or xs k 0)) → (k : ℕ) → k < i + 1 → R k (get_or (set xs i x) k 0)
-fill_more R xs i x h r f k l =
-    elim (cases_eq k i) [
-      | inl q ↦ subst (λ j. R j (get_or (set xs i x) j 0)) (sym q) (subst (R i) (sym (get_or-set_same xs i x 0 h)) r)
-      | inr q ↦ subst (R k) (sym (get_or-set_other xs i k x 0 q)) (f k (omega arith))
-    ]

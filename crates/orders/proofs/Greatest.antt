@@ -1,7 +1,7 @@
 -- The greatest value of a set: it depends on the set and the relation below 16 alone.
-use Rattle.std.proofs.Common.{◌≡◌, ℕ, ◌<◌, ◌≤◌, Bool, true, not, ◌&&◌, List, refl, ap, ◌∙◌, arith}
-use Rattle.orders.specs.Finite.{every, some}
-use Rattle.orders.specs.Orders.{under, implies, alike, reversed_rows, below_both, is_greatest, greatest_of, highest_of, meet_of, join_of, turned, ceiling_of}
+use Rattle.std.proofs.Common.{◌≡◌, ℕ, ◌+◌, ◌*◌, ◌/◌, ◌%◌, ◌<◌, ◌≤◌, Bool, true, not, ◌&&◌, List, get_or, refl, ap, ◌∙◌, arith}
+use Rattle.orders.specs.Finite.{every, some, Filled}
+use Rattle.orders.specs.Orders.{under, implies, alike, reversed_rows, below_both, is_greatest, greatest_of, highest_of, meet_of, join_of, turned, ceiling_of, cell_of}
 use Rattle.orders.proofs.Finites.{every_all, same_from, every_same, pick_same, pick_less, pick_some}
 
 module _ (n : ℕ) (le other : ℕ → ℕ → Bool) (most : n ≤ 16) (same : (u v : ℕ) → u < 16 → v < 16 → le u v ≡ other u v) where
@@ -54,3 +54,11 @@ has_meet n le u v m r h em er = er ∙ ap (is_greatest n le (below_both le u v))
 pub ceiling_less : (n : ℕ) (le : ℕ → ℕ → Bool) (c : ℕ) → 0 < n → ceiling_of n le c < n
 unfolding ceiling_of
 ceiling_less n le c h = greatest_less n le (λ v. not (le c v)) h
+
+-- the cell of row u and column v
+pub cell_read : (f : ℕ → ℕ → ℕ) (cells : List ℕ) (u v : ℕ) → u < 16 → v < 16 → Filled (cell_of f) 256 cells → get_or cells ((u % 16) * 16 + v % 16) 0 ≡ f u v
+cell_read f cells u v hu hv is =
+    let k = (u % 16) * 16 + v % 16 in
+    let row : k / 16 ≡ u = omega arith in
+    let column : k % 16 ≡ v = omega arith in
+    is k (omega arith) ∙ ap (λ x. f x (k % 16)) row ∙ ap (f u) column

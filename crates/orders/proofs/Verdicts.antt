@@ -3,22 +3,16 @@ use Rattle.std.proofs.Common.{◌≡◌, ℕ, Bool, true, false, List, [], ◌�
 use Rattle.std.proofs.lemmas.Bool.{false≢true, cond-true, cond-false}
 use Rattle.scale.specs.declared.Refusal.{Refusal}
 use Rattle.scale.specs.declared.Refusal.TheVariants.{Order, Lattice, Distribution, Opposite}
-use Rattle.orders.specs.declared.law.Law.TheVariants.{Order as order_law, Lattice as lattice_law, Distribution as distribution_law, Opposite as opposite_law}
 use Rattle.orders.specs.Orders.{under, ordered, latticed, spread, opposing, listed}
 use Rattle.orders.specs.Words.{first_failing, law_verdict, readable, rows_of, opposites_of, verdict}
-use Rattle.orders.specs.LawTests.{on_pairs, on_triples}
 
 abbrev said : Bool → Bool → Bool → Bool → Result (Unit {0}) Refusal
 said o l d x = first_failing ((o, Order) ∷ (l, Lattice) ∷ (d, Distribution) ∷ (x, Opposite) ∷ [])
 
 module _ (n : ℕ) (rows opposites : List ℕ) where
-  pub tried : (o l d x : Bool) → o ≡ on_triples order_law n rows opposites → l ≡ on_pairs lattice_law n rows opposites 0 → d ≡ on_triples distribution_law n rows opposites → x ≡ on_pairs opposite_law n rows opposites 0 → said o l d x ≡ law_verdict n rows opposites
-  unfolding ordered latticed spread opposing law_verdict
-  tried o l d x eo el ed ex =
-      ap (λ b. said b l d x) eo
-      ∙ ap (λ b. said (on_triples order_law n rows opposites) b d x) el
-      ∙ ap (λ b. said (on_triples order_law n rows opposites) (on_pairs lattice_law n rows opposites 0) b x) ed
-      ∙ ap (said (on_triples order_law n rows opposites) (on_pairs lattice_law n rows opposites 0) (on_triples distribution_law n rows opposites)) ex
+  pub tried : (o l d x : Bool) → o ≡ ordered n (under rows) → l ≡ latticed n (under rows) → d ≡ spread n (under rows) → x ≡ opposing n (under rows) (listed opposites) → said o l d x ≡ law_verdict n rows opposites
+  unfolding law_verdict
+  tried o l d x eo el ed ex = rw (eo, el, ed, ex) refl
 
   -- where none fails, all hold
   pub passed : law_verdict n rows opposites ≡ Ok tt → (ordered n (under rows) ≡ true) × (latticed n (under rows) ≡ true) × (spread n (under rows) ≡ true) × (opposing n (under rows) (listed opposites) ≡ true)
@@ -46,8 +40,4 @@ verdict_read words n rows opposites e en er eo =
 -- laws that all hold refuse nothing
 pub none_fails : (n : ℕ) (rows opposites : List ℕ) → ordered n (under rows) ≡ true → latticed n (under rows) ≡ true → spread n (under rows) ≡ true → opposing n (under rows) (listed opposites) ≡ true → law_verdict n rows opposites ≡ Ok tt
 unfolding law_verdict
-none_fails n rows opposites o l d x =
-    ap (λ b. said b (latticed n (under rows)) (spread n (under rows)) (opposing n (under rows) (listed opposites))) o
-    ∙ ap (λ b. said true b (spread n (under rows)) (opposing n (under rows) (listed opposites))) l
-    ∙ ap (λ b. said true true b (opposing n (under rows) (listed opposites))) d
-    ∙ ap (said true true true) x
+none_fails n rows opposites o l d x = rw (o, l, d, x) refl

@@ -6,6 +6,13 @@ abbrev pub every : ℕ → (ℕ → Bool) → Bool
 every zero P = true
 every (suc n) P = every n P && P n
 
+-- P holds of each pair, and of each triple, of numbers below n
+unfoldable pub every_pair : ℕ → (ℕ → ℕ → Bool) → Bool
+every_pair n P = every n (λ u. every n (P u))
+
+unfoldable pub every_triple : ℕ → (ℕ → ℕ → ℕ → Bool) → Bool
+every_triple n P = every n (λ u. every_pair n (P u))
+
 -- P holds of some number below n
 abbrev pub some : ℕ → (ℕ → Bool) → Bool
 some zero P = false

@@ -1,4 +1,3 @@
 pub mod Finite
 pub mod Orders
 pub mod Words
-pub mod LawTests

@@ -2,6 +2,7 @@
 #![tactic(auto)]
 
 pub mod candidate;
-mod law;
+pub mod operation;
 pub mod order;
+pub mod place;
 mod words;

@@ -2,8 +2,8 @@
 use Rattle.std.specs.Prelude.{◌≡◌, ℕ, ◌%◌, List, length, Ok, Err, Result}
 use Rattle.orders.specs.Words.{verdict}
 use Rattle.table.specs.Bytes.{whole_words}
-use Rattle.showtable.specs.declared.Fault.{Fault}
-use Rattle.showtable.specs.declared.Fault.TheVariants.{Memory, CutShort, Refused}
+use Rattle.showtable.specs.declared.fault.Fault.{Fault}
+use Rattle.showtable.specs.declared.fault.Fault.TheVariants.{Memory, CutShort, Refused}
 
 -- Whole words, and what the table says of them; a word that is cut short is found first.
 abbrev pub Loads : List ℕ → Result (Unit {0}) Fault → Type 0

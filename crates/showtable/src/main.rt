@@ -1,46 +1,22 @@
 // Reads the words of a table from standard input, and prints whether they make a logic and how it works.
 #![tactic(auto)]
 
-ghost use Rattle.std.specs.Prelude.{◌≤◌, length, IfOk};
 ghost use Rattle.showtable.specs.Loads.{Loads};
 
 use anyhow::anyhow;
-use scale::{Logic, Refusal, Scale, numbers};
+use scale::{Logic, Scale, numbers};
 use std::alloc::Global;
-use std::io;
 use std::io::Read;
+use std::{fmt, io};
 use table::Table;
 use table::bytes::words_of;
 
+mod fault;
+
+use crate::fault::Fault;
+
 // A table has at most 16 words. One word more is read, so that a longer input is seen to be too long.
-const MOST_BYTES: usize = 68;
-
-// Why no table was loaded.
-#[derive(Clone, Copy)]
-enum Fault {
-    // there is no memory for the words
-    Memory,
-    // the last word is cut short
-    CutShort,
-    // the words make no logic
-    Refused(Refusal),
-}
-
-// Reads up to the end of the input, or until the buffer is full, and answers how many bytes came.
-fn read_input(rt: &HostRuntime, buffer: &mut [u8]) -> io::Result<usize>
-    ensures { IfOk result (λ n. n ≤ length buffer.new) }
-{
-    let mut input = rt.stdin();
-    let mut len = 0;
-    'input: while len < buffer.len() {
-        let got = input.read(&mut buffer[len..])?;
-        if got == 0 {
-            break 'input;
-        }
-        len += got;
-    }
-    Ok(len)
-}
+const MOST_BYTES: u64 = 68;
 
 // Loads a table from the bytes of its words.
 fn load(heap: Global, table: &mut Table, bytes: &[u8]) -> Result<(), Fault>
@@ -49,20 +25,27 @@ fn load(heap: Global, table: &mut Table, bytes: &[u8]) -> Result<(), Fault>
     if bytes.len() % 4 != 0 {
         return Err(Fault::CutShort);
     }
-    match words_of(heap, bytes) {
-        Ok(words) => match table.load(words.as_slice()) {
-            Ok(_) => Ok(()),
-            Err(why) => Err(Fault::Refused(why)),
-        },
-        Err(_) => Err(Fault::Memory),
-    }
+    let words = words_of(heap, bytes)?;
+    table.load(&words)?;
+    Ok(())
 }
 
-// The two operations that are shown as tables.
+// A number, or `none`.
 #[derive(Clone, Copy)]
-enum Operation {
-    Meet,
-    Join,
+struct OrNone(Option<u32>);
+
+impl fmt::Display for OrNone {
+    ghost use Rattle.std.specs.Prelude.{Some};
+    ghost use Rattle.showtable.specs.Shown.{shown_number};
+
+    ghost output = { λ n. Some (shown_number n.0) };
+
+    fn fmt<W: fmt::Write>(&self, f: &mut fmt::Formatter<W>) -> fmt::Result {
+        match self.0 {
+            Some(n) => write!(f, "{n}"),
+            None => write!(f, "none"),
+        }
+    }
 }
 
 // What a logic answers, in plain lines; values and cuts go by their numbers.
@@ -72,10 +55,8 @@ fn report<L: Logic>(rt: &HostRuntime, logic: &L) -> io::Result<()> {
     for i in 0..size {
         value(rt, logic, i)?;
     }
-    println!(rt; "meet")?;
-    square(rt, logic, Operation::Meet)?;
-    println!(rt; "join")?;
-    square(rt, logic, Operation::Join)?;
+    square(rt, "meet", size, |i, j| numbers::meet(logic, i, j))?;
+    square(rt, "join", size, |i, j| numbers::join(logic, i, j))?;
     let count = logic.cut_count();
     println!(rt; "cuts {count}")?;
     for j in 0..count {
@@ -86,75 +67,61 @@ fn report<L: Logic>(rt: &HostRuntime, logic: &L) -> io::Result<()> {
 
 // A value: its number, its opposite, and the values at or below it.
 fn value<L: Logic>(rt: &HostRuntime, logic: &L, i: u32) -> io::Result<()> {
-    print!(rt; "value {i} opposite ")?;
-    number(rt, numbers::opposite(logic, i))?;
-    print!(rt; " at or above")?;
+    let opposite = OrNone(numbers::opposite(logic, i));
+    print!(rt; "value {i} opposite {opposite} at or above")?;
     for j in 0..logic.size() {
-        if let Some(true) = numbers::leq(logic, j, i) {
+        if numbers::leq(logic, j, i) == Some(true) {
             print!(rt; " {j}")?;
         }
     }
     println!(rt; "")
 }
 
-// One row of the table for each value.
-fn square<L: Logic>(rt: &HostRuntime, logic: &L, operation: Operation) -> io::Result<()> {
-    for i in 0..logic.size() {
-        row(rt, logic, operation, i)?;
+// An operation's name, and one row of answers for each value.
+fn square<F: Fn(u32, u32) -> Option<u32>>(
+    rt: &HostRuntime,
+    name: &str,
+    size: u32,
+    operation: F,
+) -> io::Result<()>
+    requires { F.IsAlwaysCallable operation }
+{
+    println!(rt; "{name}")?;
+    for i in 0..size {
+        row(rt, size, |j| operation(i, j))?;
     }
     Ok(())
 }
 
-fn row<L: Logic>(rt: &HostRuntime, logic: &L, operation: Operation, i: u32) -> io::Result<()> {
-    for j in 0..logic.size() {
-        let answer = match operation {
-            Operation::Meet => numbers::meet(logic, i, j),
-            Operation::Join => numbers::join(logic, i, j),
-        };
-        print!(rt; " ")?;
-        number(rt, answer)?;
+fn row<F: Fn(u32) -> Option<u32>>(rt: &HostRuntime, size: u32, answer: F) -> io::Result<()>
+    requires { F.IsAlwaysCallable answer }
+{
+    for j in 0..size {
+        let answer = OrNone(answer(j));
+        print!(rt; " {answer}")?;
     }
     println!(rt; "")
 }
 
 // A cut: its number, its value, its ceiling and its partner.
 fn cut<L: Logic>(rt: &HostRuntime, logic: &L, j: u32) -> io::Result<()> {
-    print!(rt; "cut {j} value ")?;
-    number(rt, numbers::cut(logic, j))?;
-    print!(rt; " ceiling ")?;
-    number(rt, numbers::ceiling(logic, j))?;
-    print!(rt; " partner ")?;
-    number(rt, logic.partner(j))?;
-    println!(rt; "")
-}
-
-fn number(rt: &HostRuntime, n: Option<u32>) -> io::Result<()> {
-    match n {
-        Some(n) => print!(rt; "{n}"),
-        None => print!(rt; "none"),
-    }
-}
-
-// Prints why no table was loaded, by number and name; a word that is cut short has those of a bad file word.
-fn refuse(rt: &HostRuntime, fault: Fault) -> anyhow::Result<()> {
-    match fault {
-        Fault::Memory => return Err(anyhow!("out of memory")),
-        Fault::CutShort => println!(rt; "refusal 17 Word")?,
-        Fault::Refused(why) => println!(rt; "refusal {} {}", why.number(), why.name())?,
-    }
-    Err(anyhow!("the input is no logic"))
+    let value = OrNone(numbers::cut(logic, j));
+    let ceiling = OrNone(numbers::ceiling(logic, j));
+    let partner = OrNone(logic.partner(j));
+    println!(rt; "cut {j} value {value} ceiling {ceiling} partner {partner}")
 }
 
 fn run(rt: &HostRuntime) -> anyhow::Result<()> {
-    let mut buffer = [0u8; MOST_BYTES];
-    let len = read_input(rt, &mut buffer)?;
+    let mut bytes = Vec::new(rt.alloc());
+    rt.stdin().take(MOST_BYTES).read_to_end(&mut bytes)?;
     let mut table = Table::new();
-    match load(rt.alloc(), &mut table, &buffer[0..len]) {
-        Ok(_) => {
-            report(rt, &table)?;
-            Ok(())
+    match load(rt.alloc(), &mut table, bytes.as_slice()) {
+        Ok(()) => Ok(report(rt, &table)?),
+        Err(Fault::Memory) => Err(anyhow!("out of memory")),
+        Err(fault) => {
+            println!(rt; "refusal {fault}")?;
+            Err(anyhow!("the input is no logic"))
         }
-        Err(fault) => refuse(rt, fault),
     }
 }
 

@@ -1,4 +1,5 @@
 pub mod Tables
+pub mod Cuts
 pub mod Logics
 pub mod Bytes
 pub mod Laws

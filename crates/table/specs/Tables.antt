@@ -1,7 +1,6 @@
 -- What a table answers: a function of its count, its rows and its opposites alone.
-use Rattle.std.specs.Prelude.{ℕ, Bool, List, nat_eq, nat_lt, slice_index}
+use Rattle.std.specs.Prelude.{ℕ, Bool, List, nat_lt}
 use Rattle.scale.specs.Model.{Model}
-use Rattle.orders.specs.Finite.{pick}
 use Rattle.orders.specs.Orders.{under, meet_of, join_of, lowest_of, highest_of, cut_count_of, cut_of, ceiling_of, partner_of, listed}
 
 -- The scale that a relation on the numbers below n makes. A value is its own number.
@@ -26,10 +25,3 @@ table_model n rows = order_model n (under rows)
 
 abbrev pub table_partner : ℕ → List ℕ → List ℕ → ℕ → ℕ
 table_partner n rows opposites = partner_of n (under rows) (listed opposites)
-
--- The ceiling of the value at place j of a list, and the place of that ceiling's opposite among the first `count`.
-abbrev pub ceiling_from : ℕ → (ℕ → ℕ → Bool) → List ℕ → ℕ → ℕ
-ceiling_from n le values j = ceiling_of n le (slice_index values j)
-
-abbrev pub place_from : ℕ → (ℕ → ℕ → Bool) → (ℕ → ℕ) → ℕ → List ℕ → ℕ → ℕ
-place_from n le opposite count values j = pick count (λ i. nat_eq (slice_index values i) (opposite (ceiling_from n le values j)))

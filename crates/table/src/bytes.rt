@@ -1,14 +1,8 @@
 // The words of a file: 32 bits each, the least significant byte first.
 ghost use Rattle.std.specs.Prelude.{◌≡◌, IfOk};
-ghost use Rattle.table.specs.Bytes.{whole_words, word_of};
+ghost use Rattle.table.specs.Bytes.{whole_words};
 
 use std::alloc::{AllocError, Global};
-
-fn word(a: u8, b: u8, c: u8, d: u8) -> u32
-    ensures { result ≡ word_of a b c d }
-{
-    a as u32 + 256 * b as u32 + 65536 * c as u32 + 16777216 * d as u32
-}
 
 // The whole words that the bytes spell.
 pub fn words_of(heap: Global, bytes: &[u8]) -> Result<Vec<u32>, AllocError>
@@ -16,8 +10,9 @@ pub fn words_of(heap: Global, bytes: &[u8]) -> Result<Vec<u32>, AllocError>
 {
     let mut words = Vec::new(heap);
     let mut rest = bytes;
+    // a pattern takes the four bytes by name, where a chunk of `chunks_exact` would be read by index
     'words: while let [a, b, c, d, more @ ..] = rest {
-        words.push(word(*a, *b, *c, *d))?;
+        words.push(u32::from_le_bytes([*a, *b, *c, *d]))?;
         rest = more;
     }
     Ok(words)

@@ -1,53 +1,52 @@
 // Tables: logics of 2 to 16 values that are loaded from words.
 #![tactic(auto)]
 
-ghost use Rattle.std.specs.Prelude.{◌≡◌, ◌≤◌, true, ◌∷◌, length, replicate, is_ok, Ok, Err, Decides, MatchResult};
+ghost use Rattle.std.specs.Prelude.{◌≡◌, ◌≤◌, true, ◌∷◌, length, nat_lt, replicate, is_ok, Ok, Err, Decides, MatchResult};
 ghost use Rattle.orders.specs.Finite.{Filled};
-ghost use Rattle.orders.specs.Orders.{under, ordered, latticed, spread, opposing, listed, meet_of, join_of, lowest_of, highest_of, cut_count_of, cut_of, cell_of};
+ghost use Rattle.orders.specs.Orders.{under, ordered, latticed, spread, opposing, listed, meet_of, join_of, lowest_of, highest_of, cut_count_of, cell_of};
 ghost use Rattle.orders.specs.Words.{rows_of, opposites_of, verdict};
 ghost use Rattle.table.specs.Logics.{WritesLogic};
+ghost use Rattle.scale.specs.Model.{only_if};
+ghost use Rattle.table.specs.Cuts.{cut_entry, cuts_of as listed_cuts};
 ghost use Rattle.table.specs.Tables.{table_model, table_partner};
 ghost use Rattle.table.specs.Laws.{order_lawful, order_opposed};
 
 pub mod bytes;
 mod cuts;
 
-use crate::cuts::{Counterparts, Cuts};
+use crate::cuts::{Cut, cuts_of};
+use arrayvec::ArrayVec;
 use orders::candidate::Candidate;
-use orders::order::{cell, is_member};
+use orders::operation::Operation;
+use orders::order::{Order, is_member};
+use orders::place::Place;
 use scale::{Logic, Refusal, Scale};
 
 // A logic of 2 to 16 values. Row v is the set of the values at or below v, value u being bit u.
-// Whatever table there is, its relation is a distributive lattice with opposites, and its other arrays are what the relation has:
+// Whatever table there is, its relation is a distributive lattice with opposites, and its other fields are what the relation has:
 // the meet and the join of u and v stand in cell 16 u + v, the cuts are in the order of their values.
+// The type has its arrays and their facts itself, and takes no whole `Candidate`, of which no law is known.
 #[derive(Drop)]
 pub struct Table {
     count: u8,
     rows: [u16; 16],
     opposites: [u8; 16],
-    meets: [u8; 256],
-    joins: [u8; 256],
+    meets: Operation,
+    joins: Operation,
     lowest: u8,
     highest: u8,
-    cut_count: u8,
-    cuts: [u8; 16],
-    ceilings: [u8; 16],
-    partners: [u8; 16],
+    cuts: ArrayVec<Cut, 16>,
     ghost least: { 2 ≤ count },
     ghost most: { count ≤ 16 },
     ghost order: { ordered count (under rows) ≡ true },
     ghost lattice: { latticed count (under rows) ≡ true },
     ghost distribution: { spread count (under rows) ≡ true },
     ghost opposition: { opposing count (under rows) (listed opposites) ≡ true },
-    ghost met: { Filled (cell_of (meet_of count (under rows))) 256 meets },
-    ghost joined: { Filled (cell_of (join_of count (under rows))) 256 joins },
+    ghost met: { Filled (cell_of (meet_of count (under rows))) 256 meets.cells },
+    ghost joined: { Filled (cell_of (join_of count (under rows))) 256 joins.cells },
     ghost bottom: { lowest ≡ lowest_of count (under rows) },
     ghost top: { highest ≡ highest_of count (under rows) },
-    ghost counted: { cut_count ≡ cut_count_of count (under rows) },
-    ghost few: { cut_count ≤ 16 },
-    ghost numbered: { Filled (cut_of count (under rows)) 16 cuts },
-    ghost ceiled: { Filled (table_model count rows).ceiling 16 ceilings },
-    ghost paired: { Filled (table_partner count rows opposites) 16 partners },
+    ghost cut: { cuts.items ≡ listed_cuts count (under rows) (listed opposites) },
 }
 
 // The words of the chain of 2.
@@ -58,21 +57,18 @@ impl Table {
     fn read(words: &[u32]) -> Result<Table, Refusal>
         ensures { MatchResult result (λ t. (verdict words.now ≡ Ok tt) × (t.count ≡ length words.now) × (t.rows ≡ rows_of words.now) × (t.opposites ≡ opposites_of words.now)) (λ e. verdict words.now ≡ Err e) }
     {
-        let Some(candidate) = Candidate::read(words) else {
-            return Err(Refusal::Order);
-        };
+        let candidate = Candidate::read(words).ok_or(Refusal::Order)?;
         candidate.check_laws()?;
         let lowest = candidate.lowest();
         let highest = candidate.highest();
-        let found = Cuts::of(&candidate);
-        let Counterparts { ceilings, partners } = found.counterparts(&candidate);
-        let cut_count = found.count;
-        let cuts = found.values;
-        let count = candidate.order.count;
-        let rows = candidate.order.rows;
-        let opposites = candidate.opposites;
-        let meets = candidate.meets;
-        let joins = candidate.joins;
+        let cuts = cuts_of(&candidate);
+        let Candidate {
+            order: Order { count, rows, .. },
+            opposites,
+            meets,
+            joins,
+            ..
+        } = candidate;
         Ok(Table {
             count,
             rows,
@@ -81,11 +77,15 @@ impl Table {
             joins,
             lowest,
             highest,
-            cut_count,
             cuts,
-            ceilings,
-            partners,
         })
+    }
+
+    // Cut j, or none past the count.
+    fn cut_at(&self, j: u32) -> Option<Cut>
+        ensures { result ≡ only_if (nat_lt j (cut_count_of self.now.count (under self.now.rows))) (cut_entry self.now.count (under self.now.rows) (listed self.now.opposites) j) }
+    {
+        self.cuts.get(j as usize).copied()
     }
 
     // The chain of 2.
@@ -94,10 +94,7 @@ impl Table {
         ensures rows { result.rows ≡ 1 ∷ 3 ∷ replicate 14 0 }
         ensures opposites { result.opposites ≡ 1 ∷ 0 ∷ replicate 14 0 }
     {
-        match Table::read(&CHAIN) {
-            Ok(table) => table,
-            Err(_) => unreachable(),
-        }
+        Table::read(&CHAIN).unwrap()
     }
 
     // Replaces the table by the one that the words make, or refuses them and keeps it.
@@ -106,8 +103,7 @@ impl Table {
         ensures exact { Decides (is_ok result) (WritesLogic words.now) }
         ensures made { elim result [ Ok _ ↦ (self.new.count ≡ length words.now) × (self.new.rows ≡ rows_of words.now) × (self.new.opposites ≡ opposites_of words.now) | Err _ ↦ self.new ≡ self.old ] }
     {
-        let table = Table::read(words)?;
-        *self = table;
+        *self = Table::read(words)?;
         Ok(())
     }
 }
@@ -132,35 +128,27 @@ impl Scale for Table {
     }
 
     fn meet_values(&self, u: u8, v: u8) -> u8 {
-        cell(&self.meets, u, v)
+        self.meets.at(u, v)
     }
 
     fn join_values(&self, u: u8, v: u8) -> u8 {
-        cell(&self.joins, u, v)
+        self.joins.at(u, v)
     }
 
     fn leq_values(&self, u: u8, v: u8) -> bool {
-        is_member(self.rows[(v % 16) as usize], u)
+        is_member(self.rows[Place::from(v).index()], u)
     }
 
     fn cut_count(&self) -> u32 {
-        self.cut_count as u32
+        self.cuts.len() as u32
     }
 
     fn cut(&self, j: u32) -> Option<u8> {
-        if j < self.cut_count() {
-            Some(self.cuts[j as usize])
-        } else {
-            None
-        }
+        Some(self.cut_at(j)?.value)
     }
 
     fn ceiling(&self, j: u32) -> Option<u8> {
-        if j < self.cut_count() {
-            Some(self.ceilings[j as usize])
-        } else {
-            None
-        }
+        Some(self.cut_at(j)?.ceiling)
     }
 
     fn size(&self) -> u32 {
@@ -172,11 +160,7 @@ impl Scale for Table {
     }
 
     fn number(&self, v: u8) -> Option<u32> {
-        if self.is_value(v) {
-            Some(v as u32)
-        } else {
-            None
-        }
+        self.is_value(v).then_some(v as u32)
     }
 }
 
@@ -188,15 +172,11 @@ impl Logic for Table {
     ghost opposed = { λ s. order_opposed s.count (under s.rows) s.least s.most s.order s.lattice s.distribution (listed s.opposites) s.opposition };
 
     fn opposite_value(&self, v: u8) -> u8 {
-        self.opposites[(v % 16) as usize]
+        self.opposites[Place::from(v).index()]
     }
 
     fn partner(&self, j: u32) -> Option<u32> {
-        if j < self.cut_count() {
-            Some(self.partners[j as usize] as u32)
-        } else {
-            None
-        }
+        Some(self.cut_at(j)?.partner as u32)
     }
 }
 

@@ -10,7 +10,7 @@ returns c =
     let s = c.args.self.now in
     let le = under s.order.rows in
     let k = c.args.c % 16 in
-    let a = get_or s.reverse.rows k 0 in
+    let a = get_or s.reverse.rows c.index.result 0 in
     c.greatest.ensures
     ∙ greatest_same s.order.count le le s.order.most (λ u v _ _. refl) (member (65535 - a)) (λ v. not (le k v))
-    (λ v l. member_rest 16 a v (search rules) l ∙ ap not (reversed_at s.order.rows s.reverse.rows s.turns v k l (omega arith)))
+    (λ v l. member_rest a v (search rules) l ∙ ap not (ap (λ x. member (get_or s.reverse.rows x 0) v) (c.index.ensures ∙ c.from.ensures) ∙ reversed_at s.order.rows s.reverse.rows s.turns v k l (omega arith)))

@@ -1,4 +1,4 @@
-use Rattle.std.proofs.Common.{◌/◌, ◌%◌, ◌<◌, length, get_or, sym, refl, ap, ◌∙◌, subst, arith}
+use Rattle.std.proofs.Common.{◌/◌, ◌%◌, ◌<◌, length, get_or, sym, ap, ◌∙◌, subst, arith}
 use Rattle.orders.specs.Orders.{under, turned, meet_of, join_of}
 use Rattle.orders.proofs.Greatest.{meet_same, reversed_at}
 use Rattle.orders.proofs.Readings.{readable_count, opposites_small}
@@ -14,7 +14,7 @@ pub invariant_of-result : goal.invariant_of-result
 unfolding join_of
 invariant_of-result c =
     let words = c.args.words.now in
-    let rows = c.read_fields.result.rows in
+    let rows = c.read_rows.result in
     let reverse = c.reversed-reverse.result in
     let same = c.reversed-reverse.ensures.counted in
     let turns = c.reversed-reverse.ensures.turned in
@@ -22,13 +22,10 @@ invariant_of-result c =
     record {
       counted = same;
       turns = turns;
-      small = λ k. subst (λ xs. get_or xs k 0 < 16) (sym c.read_fields.ensures.opposites) (opposites_small words k);
+      small = λ k. subst (λ xs. get_or xs k 0 < 16) (sym c.read_opposites.ensures) (opposites_small words k);
       met = c.meets-meets.ensures;
       joined = λ k l.
           c.meets-joins.ensures k l
           ∙ ap (λ n. meet_of n (under reverse.rows) (k / 16) (k % 16)) same
           ∙ meet_same (length words) (under reverse.rows) (turned (under rows)) h.1 (reversed_at rows reverse.rows turns) (k / 16) (k % 16) (omega arith) (omega arith);
     }
-
-pub returns : goal.returns
-returns c = (sym c.if-not-are_readable.ensures, refl, c.read_fields.ensures.rows, c.read_fields.ensures.opposites)

@@ -1,19 +1,18 @@
-use Rattle.std.proofs.Common.{arith}
+use Rattle.std.proofs.Common.{◌%◌, tests, refl, sym, ap, ◌∙◌, arith, rules}
+use Rattle.std.proofs.lemmas.Iterator.Adapters.{option_map_id}
+use Rattle.std.proofs.lemmas.Iterator.Search.{find_from_yields_List}
+use Rattle.std.specs.Option.{unwrap_or}
 use Rattle.orders.specs.Orders.{member, under, is_greatest, greatest_of}
-use Rattle.orders.proofs.Finites.{pick_yes, pick_no, pick_done}
+use Rattle.orders.proofs.Finites.{pick_same}
+use Rattle.orders.proofs.Ranges.{YieldsList-from_range_back, last_found}
 use Rattle.orders.proofs.order.Order.greatest.Goals as goal
-use Rattle.orders.proofs.order.Order.greatest.Goals.{then-is_greatest, else-is_greatest}
-
-pub loop-w-preserved : goal.loop-w-preserved
-loop-w-preserved c =
-    let P = is_greatest c.args.self.now.count (under c.args.self.now.rows) (member c.args.values) in
-    elim c.if-is_greatest.branch [
-      | then-is_greatest x ↦ pick_yes P c.loop-w.w _ _ x.found-is (c.is_greatest.ensures (omega arith)) x.if-is_greatest.true
-      | else-is_greatest x ↦ pick_no P c.loop-w.w _ _ _ x.found-is c.loop-w.invariant (c.is_greatest.ensures (omega arith)) x.if-is_greatest.false
-    ]
 
 pub returns : goal.returns
 unfolding greatest_of
 returns c =
-    let P = is_greatest c.args.self.now.count (under c.args.self.now.rows) (member c.args.values) in
-    pick_done P c.args.self.now.count c.loop-w.w c.loop-w.found c.loop-w-test.false c.loop-w.auto.w-end c.loop-w.invariant
+    let n = c.args.self.now.count in
+    let P = is_greatest n (under c.args.self.now.rows) (member c.args.values) in
+    c.unwrap_or.ensures
+    ∙ ap (λ o. unwrap_or o 0) (sym (option_map_id c.rfind.result) ∙ find_from_yields_List (λ x. P (x % 16)) _ _ c.rfind.result c.rfind.ensures.ran (YieldsList-from_range_back n refl) (λ x b q k. search (rules, tests)))
+    ∙ last_found (λ x. P (x % 16)) n
+    ∙ pick_same (λ x. P (x % 16)) P n (λ i l. ap P (omega (arith, c.args.self.now.most)))

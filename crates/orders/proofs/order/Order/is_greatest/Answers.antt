@@ -1,7 +1,6 @@
 use Rattle.std.proofs.Common.{◌≡◌, ◌-◌, ◌*◌, ◌%◌, ◌^◌, eqb, get_or, sym, ap, ◌∙◌, arith}
 use lib.Bits.{bit_and}
 use Rattle.std.proofs.lemmas.Nat.{one_shl}
-use Rattle.std.proofs.lemmas.Bool.{and_left}
 use Rattle.scale.proofs.Bools.{true_and}
 use Rattle.orders.specs.Finite.{every}
 use Rattle.orders.specs.Orders.{member, under, implies}
@@ -9,22 +8,14 @@ use Rattle.orders.proofs.Bits.{all_in}
 use Rattle.orders.proofs.order.Order.is_greatest.Goals as goal
 
 pub returns-then-is_member : goal.returns-then-is_member
-returns-then-is_member c h =
+returns-then-is_member c =
     let o = c.args.self.now in
     let n = o.count in
     let a = c.args.values in
-    let w = c.args.w in
+    let w = c.args.w.number in
     let p : 1 * 2 ^ n % 4294967296 ≡ 2 ^ n = one_shl n 32 (omega arith) in
-    let e : w % 16 ≡ w = omega arith in
-    ap (λ x. eqb (bit_and (bit_and a (x - 1)) (get_or o.rows (w % 16) 0)) (bit_and a (x - 1))) p
-    ∙ ap (λ x. eqb (bit_and (bit_and a (2 ^ n - 1)) (get_or o.rows x 0)) (bit_and a (2 ^ n - 1))) e
+    let e : w % 16 ≡ w = omega (arith, c.args.w.small) in
+    ap (λ x. eqb (bit_and (bit_and a (x - 1)) (get_or o.rows c.index.result 0)) (bit_and a (x - 1))) p
+    ∙ ap (λ x. eqb (bit_and (bit_and a (2 ^ n - 1)) (get_or o.rows x 0)) (bit_and a (2 ^ n - 1))) c.index.ensures
     ∙ all_in n a (get_or o.rows w 0)
     ∙ sym (true_and (member a w) (every n (λ x. implies (member a x) (under o.rows x w))) (ap (member a) (sym e) ∙ sym c.is_member.ensures ∙ c.if-is_member.true))
-
-pub returns-else-is_member : goal.returns-else-is_member
-returns-else-is_member c h =
-    let o = c.args.self.now in
-    let a = c.args.values in
-    let e : c.args.w % 16 ≡ c.args.w = omega arith in
-    c.if-is_member.false
-    ∙ sym (and_left (member a c.args.w) (every o.count (λ x. implies (member a x) (under o.rows x c.args.w))) (ap (member a) (sym e) ∙ sym c.is_member.ensures ∙ c.if-is_member.false))

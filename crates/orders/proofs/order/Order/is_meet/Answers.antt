@@ -4,8 +4,8 @@ use Rattle.orders.proofs.Greatest.{is_greatest_same}
 use Rattle.orders.proofs.order.Order.is_meet.Goals as goal
 
 pub returns : goal.returns
-returns c hu hv hw =
+returns c =
     let o = c.args.self.now in
-    c.is_greatest.ensures hw
-    ∙ is_greatest_same o.count (under o.rows) (under o.rows) o.most (λ u v _ _. refl) (member c.below.result) (below_both (under o.rows) c.args.u c.args.v)
-    (λ w _. c.below.ensures hu hv w) c.args.w hw
+    c.is_greatest.ensures
+    ∙ is_greatest_same o.count (under o.rows) (under o.rows) o.most (λ u v _ _. refl) (member c.below.result) (below_both (under o.rows) c.args.u.number c.args.v.number)
+    (λ w _. c.below.ensures w) c.args.w.number c.args.w.small

@@ -1,14 +1,13 @@
-use Rattle.std.proofs.Common.{◌≡◌, ◌∙◌, arith, length-set}
+use Rattle.std.proofs.Common.{◌≡◌, ◌/◌, ◌%◌, tests, arith, rules}
 use Rattle.orders.specs.Orders.{under, meet_of, cell_of}
-use Rattle.orders.proofs.Finites.{fill_more}
+use Rattle.orders.proofs.Ranges.{entries_from_fn}
 use Rattle.orders.proofs.order.Order.meets.Goals as goal
 
-pub loop-k-preserved : goal.loop-k-preserved
-loop-k-preserved c =
+pub returns : goal.returns
+returns c =
     let o = c.args.self.now in
-    let xs = c.loop-k.cells in
-    let k = c.loop-k.k in
-    let x = c.meet.result in (
-      length-set xs k x ∙ c.loop-k.invariant.0,
-      fill_more (λ k x. x ≡ cell_of (meet_of o.count (under o.rows)) k) xs k x (omega arith) (c.meet.ensures (omega arith) (omega arith)) c.loop-k.invariant.1,
-    )
+    entries_from_fn (λ k y. y ≡ cell_of (meet_of o.count (under o.rows)) k) c.from_fn.result 0 256 c.from_fn.ensures.items
+    (λ k y q l w.
+    let row : k / 16 % 16 ≡ k / 16 = omega arith in
+    let column : k % 16 % 16 ≡ k % 16 = omega arith in
+    search (rules, tests))
