@@ -1,9 +1,9 @@
 -- The names of a list, from the parts between its spaces. Assumes nothing.
-use Rattle.std.proofs.Common.{◌≡◌, ℕ, ◌<◌, ◌≤◌, Bool, true, false, ◌==◌, ◌&&◌, List, [], ◌∷◌, length, get_or, Option, Some, None, MatchOption, ◌≢◌, refl, sym, ◌∙◌, ap, subst, arith, zero-add}
+use Rattle.std.proofs.Common.{◌≡◌, ℕ, ◌<◌, ◌≤◌, Bool, true, false, ◌==◌, ◌&&◌, List, [], ◌∷◌, length, get_or, Option, Some, None, MatchOption, ◌≢◌, inl, inr, refl, sym, ◌∙◌, ap, subst, arith, zero-add}
 use borrow.Author.Tests.{clash}
 use Rattle.std.specs.Bool.{MatchBool}
 use Rattle.std.specs.List.{AllWithin, HoldsAt, list_all, enumerate_from}
-use Rattle.std.proofs.lemmas.Bool.{and_parts}
+use Rattle.std.proofs.lemmas.Bool.{cases_order, and_parts}
 use Rattle.std.proofs.lemmas.List.FromFn.{get_or-enumerate_from, length-enumerate_from}
 use Rattle.tokens.specs.Bytes.{small, in_name, AllInName, Name}
 use Rattle.tokens.specs.Names.{parts, names_of, Proper, Listed}
@@ -33,6 +33,11 @@ pub first_listed : (bs s : List ℕ) (r : Option ℕ) → (length bs == 0) ≡ f
 first_listed [] s r n h = absurd (clash (sym n))
 first_listed (b ∷ bs) s None n h = λ m l. h m [] (omega arith) l.within l.here
 first_listed (b ∷ bs) s (Some m) n h = record { within = h.0; here = h.1 []; first = λ k l. h.2 k [] (omega arith) l }
+
+-- a name has one place
+pub one_place : {ns s : List ℕ} {i j : ℕ} → Listed ns s i → Listed ns s j → i ≡ j
+one_place {ns} {s} {i} {j} h g =
+    elim (cases_order i j) [ inl e ↦ e | inr o ↦ elim o [ inl l ↦ absurd (g.first i l h.here) | inr l ↦ absurd (h.first j l g.here) ] ]
 
 -- a name at the place of its mark
 abbrev pub Named : List ℕ → ℕ × List ℕ → Type 0
