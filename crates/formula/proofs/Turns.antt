@@ -1,6 +1,5 @@
 -- One turn of a reader: its tokens, its lines and what is left of the text. Assumes nothing.
-use Rattle.std.proofs.Common.{◌≡◌, ℕ, ◌+◌, ◌-◌, ◌<◌, ◌≤◌, true, List, length, set, is_err, Ok, Err, Result, sym, refl, ap, ◌∙◌, subst, arith}
-use borrow.Author.Tests.{clash}
+use Rattle.std.proofs.Common.{◌≡◌, ℕ, ◌+◌, ◌-◌, ◌<◌, ◌≤◌, List, length, set, Err, Result, sym, refl, ap, ◌∙◌, subst, arith}
 use lib.Seq.{sets}
 use Rattle.lines.specs.declared.Refusal.{Refusal}
 use Rattle.lines.specs.declared.Unary.{Unary}
@@ -15,7 +14,10 @@ use Rattle.tokens.specs.Tokens.{Tok, t_name, t_prefix, t_paths, t_link, tTrue, t
 use Rattle.tokens.proofs.Fronts.{Solid, stands_of, seen_same}
 use Rattle.formula.specs.Grammar.{Tree, one, two, Level, unit}
 use Rattle.formula.specs.Read.{Lacks, Unread}
-use Rattle.formula.specs.Tells.{Tells}
+use Rattle.lines.specs.declared.Refusal.TheVariants.{Text}
+use Rattle.formula.specs.declared.Reader.{Reader}
+use Rattle.formula.specs.declared.Output.{Output}
+use Rattle.formula.specs.Tells.{unread, names, Told, Tells}
 use Rattle.formula.specs.Words.{size, postfix}
 use Rattle.formula.proofs.Steps.{Begins, u_none, Joined, Sofar, j_first, j_more, j_done}
 use Rattle.formula.proofs.Lines.{less, some, lines_one, lines_two}
@@ -124,13 +126,16 @@ no_unit x h n1 n2 n3 n4 n5 n6 = u_none h (begins_not x n1 n2 n3 n4 n5 n6)
 
 -- ---- answers
 
-pub refuses : (ns : List ℕ) (l : Level) (bs os : List ℕ) (n : ℕ) (r : Result ℕ Refusal) (bs1 os1 : List ℕ) → is_err r ≡ true → Unread ns l bs → Tells ns l bs os n r bs1 os1
-refuses ns l bs os n (Ok m) bs1 os1 e h = absurd (clash e)
-refuses ns l bs os n (Err x) bs1 os1 e h = h
+-- the lists of names of a reader, later and earlier, are one
+pub told_by : {ns ns1 : List ℕ} {l : Level} {bs os : List ℕ} {n m : ℕ} {bs1 os1 : List ℕ} → ns1 ≡ ns → Told ns1 l bs os n m bs1 os1 → Told ns l bs os n m bs1 os1
+told_by {l = l} {bs} {os} {n} {m} {bs1} {os1} e d = subst (λ x. Told x l bs os n m bs1 os1) e d
 
--- a tree was read
-abbrev pub Told : List ℕ → Level → List ℕ → List ℕ → ℕ → ℕ → List ℕ → List ℕ → Type 0
-Told ns l bs os n m bs1 os1 = Tells ns l bs os n (Ok m) bs1 os1
+pub unread_by : {ns ns1 : List ℕ} {l : Level} {bs : List ℕ} → ns1 ≡ ns → Unread ns1 l bs → Unread ns l bs
+unread_by {l = l} {bs} e u = subst (λ x. Unread x l bs) e u
+
+-- a text is refused
+pub refuses : (l : Level) (r : Reader) (o : Output) (x : Result ℕ Refusal) (e : Refusal) (r1 : Reader) (o1 : Output) → x ≡ Err e → e ≡ Text → Unread (names r) l (unread r) → Tells l r o x r1 o1
+refuses l r o x e r1 o1 w t u = subst (λ y. Tells l r o y r1 o1) (sym w) (t, u)
 
 -- it has a line, and each of its lines took a byte
 pub room : {ns : List ℕ} {l : Level} {bs os : List ℕ} {n m : ℕ} {bs1 os1 : List ℕ} → Told ns l bs os n m bs1 os1 → (n < m) × (m + length bs1 ≤ n + length bs)

@@ -17,7 +17,7 @@ const MOST_BEHIND: usize = 15;
 // A token: a listed name or a keyword or sign of the grammar; the end of the text; or a byte that begins no token.
 // `End` and `Stray` are cases of their own, so that a reader refuses all that it does not take by one arm, with no
 // `Option` round each token.
-#[derive(Clone, Copy)]
+#[derive(Clone, Copy, PartialEq, Eq, Debug)]
 pub enum Token<'a> {
     Name(&'a [u8]),
     Prefix(Unary),
@@ -37,14 +37,14 @@ pub enum Token<'a> {
 }
 
 // The paths that an operator speaks of: E, some path; A, all paths.
-#[derive(Clone, Copy)]
+#[derive(Clone, Copy, PartialEq, Eq, Debug)]
 pub enum Paths {
     Exists,
     All,
 }
 
 // What stands between the two formulas in brackets: U or R.
-#[derive(Clone, Copy)]
+#[derive(Clone, Copy, PartialEq, Eq, Debug)]
 pub enum Link {
     Until,
     Release,
