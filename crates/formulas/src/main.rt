@@ -27,8 +27,11 @@ fn show_words(rt: &HostRuntime, marks: u8, words: &[u32]) -> anyhow::Result<()> 
 fn show(rt: &HostRuntime, names: &[u8], marks: u8, text: &[u8]) -> anyhow::Result<()> {
     let mut words = [0u32; 64];
     match formula::append(names, text, marks, 0, &mut words) {
-        Ok(count) => show_words(rt, marks, &words[..(count as usize).min(64)]),
-        Err(why) => Ok(println!(rt; "  refusal {why}")?),
+        Ok(count) => show_words(rt, marks, &words[..count as usize]),
+        Err(why) => {
+            println!(rt; "  refusal {why}")?;
+            Ok(())
+        }
     }
 }
 
