@@ -1,5 +1,8 @@
 -- The front of a text, byte by byte, and the one token that stands there. Assumes nothing.
 use Rattle.std.specs.List.{prefix_len}
+use Rattle.std.proofs.Math.Seq.{take-append_seam, drop-append_seam}
+use Rattle.std.proofs.lemmas.List.{append_assoc, replicate-append-replicate}
+use Rattle.std.proofs.lemmas.List.Folds.{length-prefix_len}
 use Rattle.std.proofs.lemmas.Bool.{cases_lt}
 use Rattle.std.proofs.Common.{◌≡◌, ℕ, zero, suc, ◌+◌, ◌<◌, ◌≤◌, min, Bool, true, false, cond, eqb, leb, ◌⊎◌, List, [], ◌∷◌, ◌++◌, length, take, drop, replicate, sym, refl, ap, ◌∙◌, subst, inl, inr, one-add, arith, length-append, take-append-drop, drop_of_length-le, length-drop, eq-eqb, ne_eqb, le-leb}
 use borrow.Author.Tests.{lt-leb, both_ways}
@@ -26,10 +29,6 @@ un_skip_more b bs false e h = (zero, refl)
 un_skip : (bs : List ℕ) → (i : ℕ) × (bs ≡ replicate i 32 ++ skip bs)
 un_skip [] = (zero, refl)
 un_skip (b ∷ bs) = un_skip_more b bs (eqb b 32) refl (un_skip bs)
-
-more_spaces : (i j : ℕ) (xs : List ℕ) → (n : ℕ) × (replicate i 32 ++ (replicate j 32 ++ xs) ≡ replicate n 32 ++ xs)
-more_spaces zero j xs = (j, refl)
-more_spaces (suc i) j xs = let h = more_spaces i j xs in (suc h.0, ap (λ (l : List ℕ). 32 ∷ l) h.1)
 
 -- the spaces that are skipped are those that pass
 pub skip_is : (bs : List ℕ) → drop (prefix_len (λ b. eqb b 32) bs) bs ≡ skip bs
@@ -129,14 +128,6 @@ unfolding quant
 alone q [] w = refl
 alone q (c ∷ r) w = simp (ne_eqb c 88 w.0, ne_eqb c 70 w.1, ne_eqb c 71 w.2)
 
-take_front : (bs r : List ℕ) → take (length bs) (bs ++ r) ≡ bs
-take_front [] r = refl
-take_front (b ∷ bs) r = ap (λ (l : List ℕ). b ∷ l) (take_front bs r)
-
-drop_front : (bs r : List ℕ) → drop (length bs) (bs ++ r) ≡ r
-drop_front [] r = refl
-drop_front (b ∷ bs) r = drop_front bs r
-
 name_front : (b : ℕ) (bs r : List ℕ) → Name (b ∷ bs) → Ended r → starts b (bs ++ r) ≡ (t_name (b ∷ bs), r)
 unfolding named
 name_front b bs r w e =
@@ -144,7 +135,7 @@ name_front b bs r w e =
     let n = run_name bs r w.1 e in
     letter b m w.0 ∙
     ap (λ c. cond c (t_name (b ∷ take (run m) m), drop (run m) m) (tStray, m)) (le-leb (run m) 15 (omega (arith, n, w.2))) ∙
-    (λ k. (t_name (b ∷ (ap (λ x. take x m) n ∙ take_front bs r) k), (ap (λ x. drop x m) n ∙ drop_front bs r) k))
+    (λ k. (t_name (b ∷ (ap (λ x. take x m) n ∙ take-append_seam bs r) k), (ap (λ x. drop x m) n ∙ drop-append_seam bs r) k))
 
 front_of : (k : Tok) (r : List ℕ) → Whole k r → front (bytes_of k ++ r) ≡ (k, r)
 unfolding quant dash
@@ -192,8 +183,8 @@ unspaced {u} {k} {r} h = record { spaces = 0; spelled = ap skip h.spelled ∙ sk
 spaced : {u : List ℕ} {k : Tok} {r : List ℕ} → Stands (skip u) k r → Stands u k r
 spaced {u} {k} {r} h =
     let a = un_skip u in
-    let b = more_spaces a.0 h.spaces (bytes_of k ++ r) in
-    record { spaces = b.0; spelled = a.1 ∙ ap (λ (l : List ℕ). replicate a.0 32 ++ l) h.spelled ∙ b.1; whole = h.whole }
+    let joined = sym (append_assoc (replicate a.0 32) (replicate h.spaces 32) (bytes_of k ++ r)) ∙ ap (λ (l : List ℕ). l ++ (bytes_of k ++ r)) (replicate-append-replicate a.0 h.spaces 32) in
+    record { spaces = a.0 + h.spaces; spelled = a.1 ∙ ap (λ (l : List ℕ). replicate a.0 32 ++ l) h.spelled ∙ joined; whole = h.whole }
 
 told : {u : List ℕ} {k : Tok} {r : List ℕ} → Stands u k r → front (skip u) ≡ (k, r)
 told {u} {k} {r} h = ap front (ap skip h.spelled ∙ skip_spaces h.spaces (bytes_of k ++ r) ∙ skip_bytes k r h.whole) ∙ front_of k r h.whole
@@ -229,15 +220,12 @@ begun k r p e w = seen p (record { spaces = 0; spelled = e; whole = w })
 
 -- ---- names and other bytes
 
-length_run : (bs : List ℕ) → length (take (run bs) bs) ≤ run bs
-length_run bs = simp lib.ListN.length-take (omega arith)
-
 pub is_small : (b : ℕ) → 97 ≤ b → b ≤ 122 → small b ≡ true
 is_small b low high = grind (arith, nat_tests)
 
 pub name_on : (b n : ℕ) (m : List ℕ) → small b ≡ true → n ≡ run m → n ≤ 15 → Seen (b ∷ m) (t_name (take (1 + n) (b ∷ m))) (drop (1 + n) (b ∷ m))
 name_on b n m s en le =
-    let all : Name (b ∷ take n m) = (s, subst (λ k. AllInName (take k m)) (sym en) (run_all m), omega (arith, en, le, ap (λ k. length (take k m)) en, length_run m)) in
+    let all : Name (b ∷ take n m) = (s, subst (λ k. AllInName (take k m)) (sym en) (run_all m), omega (arith, en, le, ap (λ k. length (take k m)) en, length-prefix_len in_name m)) in
     subst (λ k. Seen (b ∷ m) (t_name (take k (b ∷ m))) (drop k (b ∷ m))) (sym (one-add n))
     (begun (t_name (b ∷ take n m)) (drop n m) tt (ap (λ (l : List ℕ). b ∷ l) (sym (take-append-drop n m))) (all, subst (λ k. Ended (drop k m)) (sym en) (run_ends m)))
 
