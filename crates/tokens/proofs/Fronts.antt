@@ -95,18 +95,18 @@ abbrev globally_of : Paths → Unary
 globally_of Exists = Eg
 globally_of All = Ag
 
-quant : Paths → List ℕ → Tok × List ℕ
+pub quant : Paths → List ℕ → Tok × List ℕ
 quant q [] = (t_paths q, [])
 quant q (c ∷ cs) = cond (eqb c 88) (t_prefix (next_of q), cs) (cond (eqb c 70) (t_prefix (finally_of q), cs) (cond (eqb c 71) (t_prefix (globally_of q), cs) (t_paths q, c ∷ cs)))
 
-dash : List ℕ → Tok × List ℕ
+pub dash : List ℕ → Tok × List ℕ
 dash [] = (tStray, [])
 dash (c ∷ cs) = cond (eqb c 62) (tImplies, cs) (tStray, c ∷ cs)
 
-named : ℕ → List ℕ → Tok × List ℕ
+pub named : ℕ → List ℕ → Tok × List ℕ
 named b bs = cond (leb (run bs) 15) (t_name (b ∷ take (run bs) bs), drop (run bs) bs) (tStray, bs)
 
-abbrev starts : ℕ → List ℕ → Tok × List ℕ
+abbrev pub starts : ℕ → List ℕ → Tok × List ℕ
 starts b bs =
     cond (eqb b 33) (t_prefix Not, bs) (cond (eqb b 38) (tAnd, bs) (cond (eqb b 40) (tOpen, bs) (cond (eqb b 41) (tClose, bs)
     (cond (eqb b 45) (dash bs) (cond (eqb b 65) (quant All bs) (cond (eqb b 69) (quant Exists bs) (cond (eqb b 70) (tFalse, bs)
@@ -235,12 +235,8 @@ name_off b n m r s en lt =
     unseen m (ap (λ t. front (cond t (skip m) (b ∷ m))) (no_space b s) ∙ letter b m s ∙
     ap (λ c. cond c (t_name (b ∷ take (run m) m), drop (run m) m) (tStray, m)) (lt-leb (run m) 15 (subst (λ k. 15 < k) en lt)))
 
-other_byte : (b : ℕ) (bs : List ℕ) → (b ≡ 33 → ⊥) → (b ≡ 38 → ⊥) → (b ≡ 40 → ⊥) → (b ≡ 41 → ⊥) → (b ≡ 45 → ⊥) → (b ≡ 65 → ⊥) → (b ≡ 69 → ⊥) → (b ≡ 70 → ⊥) → (b ≡ 82 → ⊥) → (b ≡ 84 → ⊥) → (b ≡ 85 → ⊥) → (b ≡ 91 → ⊥) → (b ≡ 93 → ⊥) → (b ≡ 124 → ⊥) → (97 ≤ b → 122 < b) → starts b bs ≡ (tStray, bs)
-other_byte b bs n33 n38 n40 n41 n45 n65 n69 n70 n82 n84 n85 n91 n93 n124 out = grind (arith, nat_tests)
-
-pub other : (b : ℕ) (m r : List ℕ) → (b ≡ 32 → ⊥) → (b ≡ 33 → ⊥) → (b ≡ 38 → ⊥) → (b ≡ 40 → ⊥) → (b ≡ 41 → ⊥) → (b ≡ 45 → ⊥) → (b ≡ 65 → ⊥) → (b ≡ 69 → ⊥) → (b ≡ 70 → ⊥) → (b ≡ 82 → ⊥) → (b ≡ 84 → ⊥) → (b ≡ 85 → ⊥) → (b ≡ 91 → ⊥) → (b ≡ 93 → ⊥) → (b ≡ 124 → ⊥) → (97 ≤ b → 122 < b) → Seen (b ∷ m) tStray r
-other b m r n32 n33 n38 n40 n41 n45 n65 n69 n70 n82 n84 n85 n91 n93 n124 out =
-    unseen m (ap (λ t. front (cond t (skip m) (b ∷ m))) (ne_eqb b 32 n32) ∙ other_byte b m n33 n38 n40 n41 n45 n65 n69 n70 n82 n84 n85 n91 n93 n124 out)
+pub other : (b : ℕ) (m r : List ℕ) → (b ≡ 32 → ⊥) → starts b m ≡ (tStray, m) → Seen (b ∷ m) tStray r
+other b m r n e = unseen m (ap (λ t. front (cond t (skip m) (b ∷ m))) (ne_eqb b 32 n) ∙ e)
 
 -- ---- what a reader takes from a token
 

@@ -6,7 +6,8 @@ use Rattle.std.proofs.lemmas.Iterator.Search.{YieldsList-from_take_while}
 use Rattle.std.proofs.lemmas.List.Folds.{length-prefix_len}
 use Rattle.tokens.specs.Bytes.{in_name, skip, run}
 use Rattle.tokens.specs.Tokens.{t_name, tStray, Seen}
-use Rattle.tokens.proofs.Fronts.{not_space, is_small, name_on, name_off, other}
+use Rattle.std.proofs.lemmas.Bool.Decides.{nat_tests}
+use Rattle.tokens.proofs.Fronts.{starts, not_space, is_small, name_on, name_off, other}
 use Rattle.tokens.proofs.front.Goals as goal
 use Rattle.tokens.proofs.front.Goals.{After-count-n}
 use Rattle.tokens.proofs.front.Goals.{in_default-2-via-then-this-lt97, in_default-2-via-else-this-lt97+else-this-lt123}
@@ -30,7 +31,8 @@ returns-else-n-gt-MOST_BEHIND-clause-seen c =
 pub returns-in_default-2-clause-seen : goal.returns-in_default-2-clause-seen
 returns-in_default-2-clause-seen c =
     let b = c.in-Some.first.now in
+    let m = c.in-Some.behind.now in
     let out : 97 ≤ b → 122 < b = λ h. elim c.in_default-2.branch [ in_default-2-via-then-this-lt97 w ↦ omega arith | in_default-2-via-else-this-lt97+else-this-lt123 w ↦ omega arith ] in
     let e = c.in-Some.ensures.cases.0 in
-    subst (λ t. Seen t tStray (drop 1 c.args.text.now)) (sym e)
-    (other b c.in-Some.behind.now (drop 1 c.args.text.now) (not_space b c.in-Some.behind.now (subst (λ t. skip t ≡ t) e c.requires)) (λ e. omega arith) (λ e. omega arith) (λ e. omega arith) (λ e. omega arith) (λ e. omega arith) (λ e. omega arith) (λ e. omega arith) (λ e. omega arith) (λ e. omega arith) (λ e. omega arith) (λ e. omega arith) (λ e. omega arith) (λ e. omega arith) (λ e. omega arith) out)
+    let none : starts b m ≡ (tStray, m) = grind (arith, nat_tests, out) in
+    subst (λ t. Seen t tStray (drop 1 c.args.text.now)) (sym e) (other b m (drop 1 c.args.text.now) (not_space b m (subst (λ t. skip t ≡ t) e c.requires)) none)
