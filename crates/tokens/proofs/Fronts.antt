@@ -218,6 +218,13 @@ seen_behind {u} {v} {k} {r} e h = record {
 begun : {bs : List ℕ} (k : Tok) (r : List ℕ) → Solid k → bs ≡ bytes_of k ++ r → Whole k r → Seen bs k r
 begun k r p e w = seen p (record { spaces = 0; spelled = e; whole = w })
 
+-- ---- `-`
+
+pub no_arrow : (m r : List ℕ) → ((ms : List ℕ) → m ≡ 62 ∷ ms → ⊥) → Seen (45 ∷ m) tStray r
+unfolding dash
+no_arrow [] r n = unseen [] refl
+no_arrow (c ∷ cs) r n = unseen (c ∷ cs) (ap (λ t. cond t (tImplies, cs) (tStray, c ∷ cs)) (ne_eqb c 62 (λ e. n cs (ap (λ x. x ∷ cs) e))))
+
 -- ---- names and other bytes
 
 pub is_small : (b : ℕ) → 97 ≤ b → b ≤ 122 → small b ≡ true
