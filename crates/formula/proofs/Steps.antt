@@ -6,7 +6,7 @@ use Rattle.lines.specs.declared.Binary.TheVariants.{And, Or, Implies}
 use Rattle.tokens.specs.declared.Paths.{Paths}
 use Rattle.tokens.specs.declared.Link.{Link}
 use Rattle.tokens.specs.Names.{Listed}
-use Rattle.tokens.specs.Tokens.{Tok, t_name, t_prefix, t_paths, t_link, tTrue, tFalse, tAnd, tOr, tImplies, tOpen, tClose, tLeft, tRight, tEnd, tStray, Stands, Seen}
+use Rattle.tokens.specs.Tokens.{Tok, t_name, t_prefix, t_paths, t_link, tTrue, tFalse, tAnd, tOr, tImplies, tOpen, tClose, tLeft, tRight, tEnd, Stands, Seen}
 use Rattle.tokens.proofs.Fronts.{same_token, seen_same}
 use Rattle.tokens.proofs.Lists.{one_place}
 use Rattle.formula.specs.Grammar.{Tree, truth, falsity, mark, one, two, path_of, Level, unit, con, alt, formula, Reads, is_true, is_false, is_name, is_one, is_path, is_group, con_one, con_more, alt_one, alt_more, is_alt, implies}
@@ -19,21 +19,10 @@ apart h n s g = n (same_token h g).0
 
 -- a token that no reading goes on with
 abbrev pub Halts : Tok → Type 0
-Halts (t_name s) = Unit {0}
-Halts (t_prefix o) = Unit {0}
-Halts (t_paths q) = Unit {0}
-Halts (t_link j) = Unit {0}
-Halts tTrue = Unit {0}
-Halts tFalse = Unit {0}
 Halts tAnd = ⊥
 Halts tOr = ⊥
 Halts tImplies = ⊥
-Halts tOpen = Unit {0}
-Halts tClose = Unit {0}
-Halts tLeft = Unit {0}
-Halts tRight = Unit {0}
-Halts tEnd = Unit {0}
-Halts tStray = Unit {0}
+Halts k = Unit {0}
 
 pub halts : {k s : List ℕ} {x : Tok} → Halts x → Stands k x s → Stops formula k
 halts p h = (apart h (λ e. subst Halts e p), apart h (λ e. subst Halts e p), apart h (λ e. subst Halts e p))
@@ -49,18 +38,10 @@ abbrev pub Begins : Tok → Type 0
 Begins (t_name s) = Unit {0}
 Begins (t_prefix o) = Unit {0}
 Begins (t_paths q) = Unit {0}
-Begins (t_link j) = ⊥
 Begins tTrue = Unit {0}
 Begins tFalse = Unit {0}
-Begins tAnd = ⊥
-Begins tOr = ⊥
-Begins tImplies = ⊥
 Begins tOpen = Unit {0}
-Begins tClose = ⊥
-Begins tLeft = ⊥
-Begins tRight = ⊥
-Begins tEnd = ⊥
-Begins tStray = ⊥
+Begins k = ⊥
 
 -- ---- what a reading of one unit shows behind its first token
 
@@ -85,16 +66,8 @@ Shape ns tFalse bs t r = (falsity ≡ t) × (bs ≡ r)
 Shape ns (t_name s) bs t r = (m : ℕ) × Listed ns s m × (mark m ≡ t) × (bs ≡ r)
 Shape ns (t_prefix o) bs t r = (u : Tree) × (one o u ≡ t) × Reads ns unit bs u r
 Shape ns (t_paths q) bs t r = PathShape ns q bs t r
-Shape ns (t_link j) bs t r = ⊥
-Shape ns tLeft bs t r = ⊥
-Shape ns tRight bs t r = ⊥
 Shape ns tOpen bs t r = (k : List ℕ) × Reads ns formula bs t k × Stands k tClose r
-Shape ns tAnd bs t r = ⊥
-Shape ns tOr bs t r = ⊥
-Shape ns tImplies bs t r = ⊥
-Shape ns tClose bs t r = ⊥
-Shape ns tEnd bs t r = ⊥
-Shape ns tStray bs t r = ⊥
+Shape ns k bs t r = ⊥
 
 record Starts (ns bs : List ℕ) (t : Tree) (r : List ℕ) : Type 0 where
   token : Tok

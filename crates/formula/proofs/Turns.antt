@@ -1,6 +1,5 @@
 -- One turn of a reader: its tokens, its lines and what is left of the text. Assumes nothing.
-use Rattle.std.proofs.Common.{◌≡◌, ℕ, ◌+◌, ◌-◌, ◌<◌, ◌≤◌, true, List, length, set, is_err, Ok, Err, Result, sym, refl, ap, ◌∙◌, subst, arith}
-use borrow.Author.Tests.{clash}
+use Rattle.std.proofs.Common.{◌≡◌, ℕ, ◌+◌, ◌-◌, ◌<◌, ◌≤◌, List, length, set, Err, Result, sym, refl, subst, arith}
 use lib.Seq.{sets}
 use Rattle.lines.specs.declared.Refusal.{Refusal}
 use Rattle.lines.specs.declared.Unary.{Unary}
@@ -9,95 +8,29 @@ use Rattle.lines.specs.declared.Line.TheVariants.{One, Two}
 use Rattle.lines.specs.Word.{word_of}
 use Rattle.tokens.specs.declared.Link.{Link}
 use Rattle.tokens.specs.declared.Token.{Token}
-use Rattle.tokens.specs.declared.Token.TheVariants.{Name, Prefix, Quantifier, Between, True, False, And, Or, Implies, Open, Close, Left, Right, End, Stray}
+use Rattle.tokens.specs.declared.Token.TheVariants.{Name, Prefix, Quantifier, Between, True, False, Open}
 use Rattle.tokens.specs.Shown.{tok_of}
-use Rattle.tokens.specs.Tokens.{Tok, t_name, t_prefix, t_paths, t_link, tTrue, tFalse, tAnd, tOr, tImplies, tOpen, tClose, tLeft, tRight, tEnd, tStray, Stands, Seen}
-use Rattle.tokens.proofs.Fronts.{Solid, stands_of, seen_same}
+use Rattle.tokens.specs.Tokens.{Tok, t_link, Stands, Seen}
+use Rattle.tokens.proofs.Fronts.{seen_same}
 use Rattle.formula.specs.Grammar.{Tree, one, two, Level, unit}
 use Rattle.formula.specs.Read.{Lacks, Unread}
-use Rattle.formula.specs.Tells.{Tells}
+use Rattle.lines.specs.declared.Refusal.TheVariants.{Text}
+use Rattle.formula.specs.declared.Reader.{Reader}
+use Rattle.formula.specs.declared.Output.{Output}
+use Rattle.formula.specs.Tells.{unread, names, Told, Tells}
 use Rattle.formula.specs.Words.{size, postfix}
 use Rattle.formula.proofs.Steps.{Begins, u_none, Joined, Sofar, j_first, j_more, j_done}
 use Rattle.formula.proofs.Lines.{less, some, lines_one, lines_two}
 
 -- ---- tokens
 
--- the token that was looked at is the one that is gone past
-pub past : {bs r : List ℕ} {j k : Tok} → Solid k → (s : List ℕ) × Seen bs k s → Seen bs j r → Stands bs k r
-past {bs} {r} {j} {k} p g h = let d = stands_of p g.1 in subst (λ x. Stands bs k x) (sym (seen_same h d).1) d
-
--- the token of the code that a token without parts stands for
-abbrev pub plain : Tok → Token → Token
-plain (t_name s) d = d
-plain (t_prefix o) d = d
-plain (t_paths q) d = d
-plain (t_link j) d = d
-plain tTrue d = True
-plain tFalse d = False
-plain tAnd d = And
-plain tOr d = Or
-plain tImplies d = Implies
-plain tOpen d = Open
-plain tClose d = Close
-plain tLeft d = Left
-plain tRight d = Right
-plain tEnd d = End
-plain tStray d = Stray
-
-back : (x : Token) → plain (tok_of x) x ≡ x
-back (Name s) = refl
-back (Prefix o) = refl
-back (Quantifier q) = refl
-back (Between j) = refl
-back True = refl
-back False = refl
-back And = refl
-back Or = refl
-back Implies = refl
-back Open = refl
-back Close = refl
-back Left = refl
-back Right = refl
-back End = refl
-back Stray = refl
-
--- where another token was seen, the token k does not stand
-pub not_at : {bs s : List ℕ} (x : Token) (k : Tok) → Seen bs (tok_of x) s → (x ≡ plain k x → ⊥) → Lacks bs k
-not_at x k h n m g = n (sym (back x) ∙ ap (λ z. plain z x) (seen_same h g).0)
-
 abbrev Linked : Tok → Type 0
-Linked (t_name s) = ⊥
-Linked (t_prefix o) = ⊥
-Linked (t_paths q) = ⊥
 Linked (t_link j) = Unit {0}
-Linked tTrue = ⊥
-Linked tFalse = ⊥
-Linked tAnd = ⊥
-Linked tOr = ⊥
-Linked tImplies = ⊥
-Linked tOpen = ⊥
-Linked tClose = ⊥
-Linked tLeft = ⊥
-Linked tRight = ⊥
-Linked tEnd = ⊥
-Linked tStray = ⊥
+Linked k = ⊥
 
 linked : (x : Token) → Linked (tok_of x) → ((j : _) → x ≡ Between j → ⊥) → ⊥
-linked (Name s) h n = h
-linked (Prefix o) h n = h
-linked (Quantifier q) h n = h
 linked (Between j) h n = n j refl
-linked True h n = h
-linked False h n = h
-linked And h n = h
-linked Or h n = h
-linked Implies h n = h
-linked Open h n = h
-linked Close h n = h
-linked Left h n = h
-linked Right h n = h
-linked End h n = h
-linked Stray h n = h
+linked x h n = h
 
 pub not_link : {bs s : List ℕ} (x : Token) → Seen bs (tok_of x) s → ((j : _) → x ≡ Between j → ⊥) → (u : Link) → Lacks bs (t_link u)
 not_link x h n u m g = linked x (subst Linked (sym (seen_same h g).0) tt) n
@@ -106,31 +39,26 @@ begins_not : (x : Token) → ((s : _) → x ≡ Name s → ⊥) → (x ≡ True 
 begins_not (Name s) n1 n2 n3 n4 n5 n6 b = n1 s refl
 begins_not (Prefix o) n1 n2 n3 n4 n5 n6 b = n4 o refl
 begins_not (Quantifier q) n1 n2 n3 n4 n5 n6 b = n5 q refl
-begins_not (Between j) n1 n2 n3 n4 n5 n6 b = b
 begins_not True n1 n2 n3 n4 n5 n6 b = n2 refl
 begins_not False n1 n2 n3 n4 n5 n6 b = n3 refl
-begins_not And n1 n2 n3 n4 n5 n6 b = b
-begins_not Or n1 n2 n3 n4 n5 n6 b = b
-begins_not Implies n1 n2 n3 n4 n5 n6 b = b
 begins_not Open n1 n2 n3 n4 n5 n6 b = n6 refl
-begins_not Close n1 n2 n3 n4 n5 n6 b = b
-begins_not Left n1 n2 n3 n4 n5 n6 b = b
-begins_not Right n1 n2 n3 n4 n5 n6 b = b
-begins_not End n1 n2 n3 n4 n5 n6 b = b
-begins_not Stray n1 n2 n3 n4 n5 n6 b = b
+begins_not x n1 n2 n3 n4 n5 n6 b = b
 
 pub no_unit : {ns bs r : List ℕ} (x : Token) → Seen bs (tok_of x) r → ((s : _) → x ≡ Name s → ⊥) → (x ≡ True → ⊥) → (x ≡ False → ⊥) → ((o : _) → x ≡ Prefix o → ⊥) → ((q : _) → x ≡ Quantifier q → ⊥) → (x ≡ Open → ⊥) → Unread ns unit bs
 no_unit x h n1 n2 n3 n4 n5 n6 = u_none h (begins_not x n1 n2 n3 n4 n5 n6)
 
 -- ---- answers
 
-pub refuses : (ns : List ℕ) (l : Level) (bs os : List ℕ) (n : ℕ) (r : Result ℕ Refusal) (bs1 os1 : List ℕ) → is_err r ≡ true → Unread ns l bs → Tells ns l bs os n r bs1 os1
-refuses ns l bs os n (Ok m) bs1 os1 e h = absurd (clash e)
-refuses ns l bs os n (Err x) bs1 os1 e h = h
+-- the lists of names of a reader, later and earlier, are one
+pub told_by : {ns ns1 : List ℕ} {l : Level} {bs os : List ℕ} {n m : ℕ} {bs1 os1 : List ℕ} → ns1 ≡ ns → Told ns1 l bs os n m bs1 os1 → Told ns l bs os n m bs1 os1
+told_by {l = l} {bs} {os} {n} {m} {bs1} {os1} e d = subst (λ x. Told x l bs os n m bs1 os1) e d
 
--- a tree was read
-abbrev pub Told : List ℕ → Level → List ℕ → List ℕ → ℕ → ℕ → List ℕ → List ℕ → Type 0
-Told ns l bs os n m bs1 os1 = Tells ns l bs os n (Ok m) bs1 os1
+pub unread_by : {ns ns1 : List ℕ} {l : Level} {bs : List ℕ} → ns1 ≡ ns → Unread ns1 l bs → Unread ns l bs
+unread_by {l = l} {bs} e u = subst (λ x. Unread x l bs) e u
+
+-- a text is refused
+pub refuses : (l : Level) (r : Reader) (o : Output) (x : Result ℕ Refusal) (e : Refusal) (r1 : Reader) (o1 : Output) → x ≡ Err e → e ≡ Text → Unread (names r) l (unread r) → Tells l r o x r1 o1
+refuses l r o x e r1 o1 w t u = subst (λ y. Tells l r o y r1 o1) (sym w) (t, u)
 
 -- it has a line, and each of its lines took a byte
 pub room : {ns : List ℕ} {l : Level} {bs os : List ℕ} {n m : ℕ} {bs1 os1 : List ℕ} → Told ns l bs os n m bs1 os1 → (n < m) × (m + length bs1 ≤ n + length bs)

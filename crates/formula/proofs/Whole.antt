@@ -1,15 +1,15 @@
 -- A whole text: it spells at most one tree, and a reading that comes to the end is of that tree. Assumes nothing.
-use Rattle.std.proofs.Common.{◌≡◌, ℕ, ◌+◌, ◌<◌, ◌≤◌, min, List, length, Err, sym, ap, ◌∙◌, subst, arith}
+use Rattle.std.proofs.Common.{◌≡◌, ℕ, ◌+◌, ◌≤◌, min, List, length, true, false, is_err, Result, Ok, Err, refl, sym, ap, ◌∙◌, subst, arith}
 use lib.Seq.{sets}
 use Rattle.lines.specs.declared.Refusal.{Refusal}
-use Rattle.lines.specs.declared.Refusal.TheVariants.{Text}
+use Rattle.lines.specs.declared.Refusal.TheVariants.{Line, Full, Names, Text}
 use Rattle.tokens.specs.Names.{Proper}
 use Rattle.lines.specs.declared.Binary.TheVariants.{And, Or}
 use Rattle.tokens.specs.Tokens.{tAnd, tOr, tEnd, Stands}
 use Rattle.formula.specs.Grammar.{Tree, Level, unit, con, alt, formula, Spells, OneTree, Reads, is_true, is_false, is_name, is_one, is_path, is_group, con_one, con_more, alt_one, alt_more, is_alt, implies}
 use Rattle.formula.specs.Read.{Lacks, Stops, Read, Unread}
 use Rattle.formula.specs.Words.{size, postfix}
-use Rattle.formula.specs.Tells.{Taken, Treeless, cleared, Accepts, Overflows, Outcome}
+use Rattle.formula.specs.Tells.{Told, Taken, Treeless, Counts, Written, held, cleared, Outcome}
 use Rattle.formula.proofs.Lines.{some}
 use Rattle.formula.proofs.Forms.{Marks, marks_of, formed}
 use Rattle.formula.proofs.Steps.{halts, at_end, at_implies, Sofar, con_list, alt_list, j_first, j_more, j_done, u_true, u_false, u_name, u_one, u_path, u_group, f_alt, f_more}
@@ -54,20 +54,30 @@ module _ {ns bs : List ℕ} where
 pub its_tree : {ns bs : List ℕ} {t u : Tree} {r : List ℕ} → Read ns formula bs u r → Spells ns bs t → u ≡ t
 its_tree {t = t} h p = (h.only t p.to p.reads (at_end p.ends)).0
 
-module _ {ns bs : List ℕ} {a : ℕ} (n k room : ℕ) (os : List ℕ) {os' : List ℕ} (names : Proper ns a) (ek : k ≡ min n 64) (er : room ≡ min (length os) 64) where
-  pub accepted : {t u : Tree} {m : ℕ} → Taken ns bs t → m ≡ k + size t → m ≤ room → u ≡ t → os' ≡ sets os k (postfix k u) → Accepts ns bs a n os m os'
-  accepted {t} {u} {m} h em lt eu e = record {
-    names = names;
-    tree = t;
-    taken = h;
-    fits = omega (arith, ek, er, em, lt);
-    count = em ∙ ap (λ x. x + size t) ek;
-    words = e ∙ ap (λ x. sets os k (postfix k x)) eu ∙ ap (λ x. sets os x (postfix x t)) ek;
-    formed = formed a (min n 64) t (subst (λ x. Marks x t) names.count (marks_of h.spelled.reads));
-  }
+pub uncounted : (ns bs : List ℕ) (n : ℕ) (x : Result ℕ Refusal) (e : Refusal) → x ≡ Err e → e ≡ Text → Treeless ns bs → Counts ns bs n x
+uncounted ns bs n x e w t h = subst (Counts ns bs n) (sym w) (t, h)
 
-  pub overflows : {t : Tree} {m : ℕ} → Taken ns bs t → m ≡ k + size t → room < m → os' ≡ cleared k os → Overflows ns bs a n os os'
-  overflows {t} h em gt e = record { names = names; tree = t; taken = h; over = omega (arith, ek, er, em, gt, some t); words = e ∙ ap (λ x. cleared x os) ek }
+pub unwritten : (ns bs : List ℕ) (n : ℕ) (os : List ℕ) (x : Result ℕ Refusal) (e : Refusal) → x ≡ Err e → e ≡ Text → Treeless ns bs → Written ns bs n os x os
+unwritten ns bs n os x e w t h = subst (λ y. Written ns bs n os y os) (sym (w ∙ ap (λ z. Err z) t)) (h, refl)
 
-  pub treeless : (why : Refusal) → (why ≡ Text) × Treeless ns bs → os' ≡ cleared k os → Outcome ns bs a n os (Err why) os'
-  treeless why h e = subst (λ x. Outcome ns bs a n os (Err x) os') (sym h.0) (names, h.1, e ∙ ap (λ x. cleared x os) ek)
+-- the tree that was read when its lines were written is the tree that was counted
+pub written : {ns bs : List ℕ} (n : ℕ) (os : List ℕ) {m k : ℕ} {r os1 os2 : List ℕ} → (h : (t : Tree) × Taken ns bs t × (m ≡ n + size t)) → m ≤ min (length os) 64 → Told ns formula bs os n k r os1 → os2 ≡ os1 → Written ns bs n os (Ok m) os2
+written n os h le g e =
+    let same = its_tree g.1 h.1.spelled in
+    (h.0, h.1, h.2, le, e ∙ g.3 (omega (arith, g.2, h.2, le, ap size same)) ∙ ap (λ x. sets os n (postfix n x)) same)
+
+-- what was written is what the call answers, with the words cleared where it refuses
+pub settled : (ns bs : List ℕ) (a n k : ℕ) (os : List ℕ) (x : Result ℕ Refusal) (os1 os2 : List ℕ) → Proper ns a → k ≡ held n → Written ns bs k os x os1 → (is_err x ≡ true → os2 ≡ cleared k os1) → (is_err x ≡ false → os2 ≡ os1) → Outcome ns bs a n os x os2
+settled ns bs a n k os (Ok m) os1 os2 names e w c s = record {
+  names = names;
+  tree = w.0;
+  taken = w.1;
+  fits = omega (arith, e, w.2, w.3);
+  count = w.2 ∙ ap (λ y. y + size w.0) e;
+  words = s refl ∙ w.4 ∙ ap (λ y. sets os y (postfix y w.0)) e;
+  formed = formed a (held n) w.0 (subst (λ y. Marks y w.0) names.count (marks_of w.1.spelled.reads));
+}
+settled ns bs a n k os (Err Text) os1 os2 names e w c s = (names, w.0, c refl ∙ ap (cleared k) w.1 ∙ ap (λ y. cleared y os) e)
+settled ns bs a n k os (Err Full) os1 os2 names e w c s = record { names = names; tree = w.0; taken = w.1; over = omega (arith, e, w.2, some w.0); words = c refl ∙ ap (cleared k) w.3 ∙ ap (λ y. cleared y os) e }
+settled ns bs a n k os (Err Names) os1 os2 names e w c s = absurd w
+settled ns bs a n k os (Err Line) os1 os2 names e w c s = absurd w

@@ -1,25 +1,53 @@
 -- What the readers and the public call answer, and what they leave in the words. Assumes nothing.
-use Rattle.std.specs.Prelude.{◌≡◌, ℕ, ◌+◌, ◌-◌, ◌<◌, ◌≤◌, min, List, ◌++◌, length, take, drop, replicate, Ok, Err, Result}
+use Rattle.std.specs.Prelude.{◌≡◌, ℕ, ◌+◌, ◌-◌, ◌<◌, ◌≤◌, min, List, ◌++◌, length, take, drop, replicate, Ok, Err, Result, Bool, true, false, ⊤}
 use Rattle.std.proofs.lemmas.List.Edits.{sets}
 use Rattle.lines.specs.declared.Refusal.{Refusal}
 use Rattle.lines.specs.declared.Refusal.TheVariants.{Line, Full, Names, Text}
 use Rattle.tokens.specs.Names.{Proper}
 use Rattle.formula.specs.declared.Reader.{Reader}
+use Rattle.formula.specs.declared.Output.{Output}
 use Rattle.formula.specs.Grammar.{Tree, Level, Spells}
-use Rattle.formula.specs.Read.{Read, Unread}
+use Rattle.formula.specs.Read.{Lacks, Read, Unread}
+use Rattle.tokens.specs.Tokens.{Tok, Seen}
 use Rattle.formula.specs.Words.{size, postfix, Formed}
 
 -- ---- the readers of the rules
 
--- what a reader has not read yet
+-- what a reader has not read yet, and the list of names that it knows
 abbrev pub unread : Reader → List ℕ
 unread r = drop r.at r.text.now
 
--- A reader of the rule l, with n lines before: a tree was read from bs up to bs', and its last line is the m-th; if these
--- lines are at most 64, their words stand in os from n on. Or there is no such tree.
-abbrev pub Tells : List ℕ → Level → List ℕ → List ℕ → ℕ → Result ℕ Refusal → List ℕ → List ℕ → Type 0
-Tells ns l bs os n (Ok m) bs' os' = (t : Tree) × Read ns l bs t bs' × (m ≡ n + size t) × (m ≤ 64 → os' ≡ sets os n (postfix n t))
-Tells ns l bs os n (Err e) bs' os' = Unread ns l bs
+abbrev pub names : Reader → List ℕ
+names r = r.marks.list.now
+
+-- going past the token k if it stands next, and where it must
+abbrev pub Eats : Reader → Tok → Bool → Reader → Type 0
+Eats r k true r' = Seen (unread r) k (unread r') × (names r' ≡ names r)
+Eats r k false r' = Lacks (unread r) k × (r' ≡ r)
+
+abbrev pub Expects : Reader → Tok → Result ⊤ Refusal → Reader → Type 0
+Expects r k (Ok _) r' = Seen (unread r) k (unread r') × (names r' ≡ names r)
+Expects r k (Err e) r' = (e ≡ Text) × Lacks (unread r) k × (names r' ≡ names r)
+
+-- With n lines before: a tree was read by the rule l from bs up to bs', and there are m lines with those of the tree; if they
+-- are at most 64, their words stand in os from n on.
+abbrev pub Told : List ℕ → Level → List ℕ → List ℕ → ℕ → ℕ → List ℕ → List ℕ → Type 0
+Told ns l bs os n m bs' os' = (t : Tree) × Read ns l bs t bs' × (m ≡ n + size t) × (m ≤ 64 → os' ≡ sets os n (postfix n t))
+
+-- i is the number of the last of m lines; no sheet has more than 256
+abbrev pub Last : ℕ → ℕ → Type 0
+Last m i = m ≤ 256 → i ≡ m - 1
+
+-- A reader of the rule l: a tree was read, its lines are counted and written, and its last line's number is the answer. Or
+-- there is no such tree.
+abbrev pub Tells : Level → Reader → Output → Result ℕ Refusal → Reader → Output → Type 0
+Tells l r o (Ok i) r' o' = Told (names r) l (unread r) o.words.now o.count o'.count (unread r') o'.words.now × Last o'.count i
+Tells l r o (Err e) r' o' = (e ≡ Text) × Unread (names r) l (unread r)
+
+-- a reader keeps its names, and the words are still those that were lent
+pub record Keeps (r : Reader) (o : Output) (r' : Reader) (o' : Output) : Type 0 where
+  pub names : names r' ≡ names r
+  pub words : o'.words.ghost_name ≡ o.words.ghost_name
 
 -- ---- whole texts
 
@@ -37,6 +65,13 @@ Treeless ns bs = length bs ≤ 1024 → (t : Tree) → Spells ns bs t → ⊥
 abbrev pub Counts : List ℕ → List ℕ → ℕ → Result ℕ Refusal → Type 0
 Counts ns bs n (Ok m) = (t : Tree) × Taken ns bs t × (m ≡ n + size t)
 Counts ns bs n (Err e) = (e ≡ Text) × Treeless ns bs
+
+-- the lines of a text's tree are written behind n others, or there are too many, or there is no tree
+abbrev pub Written : List ℕ → List ℕ → ℕ → List ℕ → Result ℕ Refusal → List ℕ → Type 0
+Written ns bs n os (Ok m) os' = (t : Tree) × Taken ns bs t × (m ≡ n + size t) × (m ≤ min (length os) 64) × (os' ≡ sets os n (postfix n t))
+Written ns bs n os (Err Text) os' = Treeless ns bs × (os' ≡ os)
+Written ns bs n os (Err Full) os' = (t : Tree) × Taken ns bs t × (min (length os) 64 < n + size t) × (os' ≡ os)
+Written ns bs n os (Err e) os' = ⊥
 
 -- ---- the public call
 

@@ -1,17 +1,18 @@
 // Reads a formula's text, and appends the lines of its tree to the words of a sheet.
 #![tactic(auto)]
 
-ghost use Rattle.std.specs.Prelude.{◌≡◌, ℕ, ◌+◌, ◌-◌, ◌<◌, ◌≤◌, List, length, slice_set};
+ghost use Rattle.std.specs.Prelude.{◌≡◌, ◌+◌, ◌<◌, ◌≤◌, length, slice_set};
 ghost use Rattle.lines.specs.Word.{word_of};
-ghost use Rattle.tokens.specs.Names.{names_of};
 ghost use Rattle.tokens.specs.Shown.{tok_of};
 ghost use Rattle.tokens.specs.Tokens.{Seen};
 ghost use Rattle.formula.specs.Grammar.{unit, con, alt, formula, path_of, OneTree};
-ghost use Rattle.formula.specs.Tells.{unread, Tells, Counts, Outcome, cleared};
+ghost use Rattle.formula.specs.Tells.{unread, names, Eats, Expects, Last, Tells, Keeps, Counts, Written, Outcome, cleared};
 
+use crate::mark_names::Marks;
 use lines::{Binary, Line, Refusal};
-use tokens::names::{mark_of, proper};
 use tokens::{Link, Paths, Token, token_at};
+
+mod mark_names;
 
 // The most lines that a sheet holds.
 const MOST_LINES: usize = 64;
@@ -19,11 +20,39 @@ const MOST_LINES: usize = 64;
 // The most bytes that a text has.
 const MOST_BYTES: usize = 1024;
 
-// A text, and the place in it that reading has come to.
+// A text, the place in it that reading has come to, and the marks that its names stand for.
 #[derive(Drop)]
 struct Reader<'a> {
     text: &'a [u8],
     at: usize,
+    marks: Marks<'a>,
+}
+
+// The words of a sheet, lent by its caller, and how many lines there are. A line past the words is counted, and not written.
+#[derive(Drop)]
+struct Output<'a> {
+    words: &'a mut [u32],
+    count: usize,
+}
+
+impl<'a> Output<'a> {
+    // Writes a line behind the others, if there is room for it, and counts it. Answers the line's number; past 256 lines,
+    // which no sheet holds, that is 255.
+    fn push(&mut self, line: Line) -> u8
+        requires { self.old.count < 65536 }
+        ensures words { self.new.words.now ≡ slice_set self.old.words.now self.old.count (word_of line) }
+        ensures count { self.new.count ≡ self.old.count + 1 }
+        ensures number { Last self.new.count result }
+        ensures same { self.new.words.ghost_name ≡ self.old.words.ghost_name }
+    {
+        let number = self.count;
+        // By index, since a proof knows no element after `get_mut`.
+        if number < self.words.len() {
+            self.words[number] = line.word();
+        }
+        self.count += 1;
+        number.min(255) as u8
+    }
 }
 
 // The operator that E or A makes with U or R.
@@ -38,134 +67,120 @@ fn path_operator(paths: Paths, link: Link) -> Binary
     }
 }
 
-// The number of the last of `count` lines. Past 256 lines, which no sheet holds, it is 255.
-fn last_line(count: usize) -> u8
-    ensures { count ≤ 256 → result ≡ count - 1 }
-{
-    count.saturating_sub(1).min(255) as u8
-}
-
-// Writes a line behind the first `count`, if there is room for it, and counts it.
-fn emit(out: &mut [u32], count: usize, line: Line) -> usize
-    requires { count < 65536 }
-    ensures lines { out.new ≡ slice_set out.old count (word_of line) }
-    ensures count { result ≡ count + 1 }
-{
-    if count < out.len() {
-        out[count] = line.word();
-    }
-    count + 1
-}
-
 impl<'a> Reader<'a> {
-    // The token at the reader's place.
-    fn peek(&self) -> Token<'a>
-        ensures { (s : List ℕ) × Seen (unread self.now) (tok_of result) s }
-    {
-        let (token, _) = token_at(self.text, self.at);
-        token
-    }
-
     // The token at the reader's place, which the reader goes past.
     fn next_token(&mut self) -> Token<'a>
-        ensures { Seen (unread self.old) (tok_of result) (unread self.new) }
+        ensures seen { Seen (unread self.old) (tok_of result) (unread self.new) }
+        ensures same { names self.new ≡ names self.old }
     {
         let (token, end) = token_at(self.text, self.at);
         self.at = end;
         token
     }
 
-    // formula: an alt, or an alt, `->` and a formula.
-    // Each reader writes the lines of what it reads behind the first `count`, and answers how many there are then.
-    #[cycle(alt_con_formula_unit)]
-    fn formula(&mut self, names: &[u8], out: &mut [u32], count: usize) -> Result<usize, Refusal>
-        requires { (count + length (unread self.old) < 65536) × (length (names_of names.now) < 256) }
-        ensures { Tells names.now formula (unread self.old) out.old count result (unread self.new) out.new }
+    // Goes past this token, if it is the next one.
+    fn eat(&mut self, token: Token<'_>) -> bool
+        ensures { Eats self.old (tok_of token.entry) result self.new }
     {
-        let left = self.alt(names, out, count)?;
-        if let Token::Implies = self.peek() {
-            self.next_token();
-            let right = self.formula(names, out, left)?;
-            let line = Line::Two(Binary::Implies, last_line(left), last_line(right));
-            return Ok(emit(out, right, line));
+        let (next, end) = token_at(self.text, self.at);
+        let eaten = next == token;
+        if eaten {
+            self.at = end;
         }
-        Ok(left)
+        eaten
+    }
+
+    // Goes past this token, or refuses the text.
+    fn expect(&mut self, token: Token<'_>) -> Result<(), Refusal>
+        ensures { Expects self.old (tok_of token.entry) result self.new }
+    {
+        if self.eat(token) {
+            Ok(())
+        } else {
+            Err(Refusal::Text)
+        }
+    }
+
+    // formula: an alt, or an alt, `->` and a formula.
+    // Each reader writes the lines of what it reads behind those of `out`, and answers the number of the last one. What each
+    // requires is of a reader and an output together, so it is no ghost field of either.
+    #[cycle(alt_con_formula_unit)]
+    fn formula(&mut self, out: &mut Output<'_>) -> Result<u8, Refusal>
+        requires { out.old.count + length (unread self.old) < 65536 }
+        ensures tells { Tells formula self.old out.old result self.new out.new }
+        ensures keeps { Keeps self.old out.old self.new out.new }
+    {
+        let left = self.alt(out)?;
+        if !self.eat(Token::Implies) {
+            return Ok(left);
+        }
+        let right = self.formula(out)?;
+        Ok(out.push(Line::Two(Binary::Implies, left, right)))
     }
 
     // alt: cons joined by `|`, grouped leftward.
+    // One helper for `alt` and `con` would call what it is passed, and a cycle of calls through a closure gets no proof.
     #[cycle(alt_con_formula_unit)]
-    fn alt(&mut self, names: &[u8], out: &mut [u32], count: usize) -> Result<usize, Refusal>
-        requires { (count + length (unread self.old) < 65536) × (length (names_of names.now) < 256) }
-        ensures { Tells names.now alt (unread self.old) out.old count result (unread self.new) out.new }
+    fn alt(&mut self, out: &mut Output<'_>) -> Result<u8, Refusal>
+        requires { out.old.count + length (unread self.old) < 65536 }
+        ensures tells { Tells alt self.old out.old result self.new out.new }
+        ensures keeps { Keeps self.old out.old self.new out.new }
     {
-        let mut left = self.con(names, out, count)?;
-        'more: while let Token::Or = self.peek() {
-            self.next_token();
-            let right = self.con(names, out, left)?;
-            let line = Line::Two(Binary::Or, last_line(left), last_line(right));
-            left = emit(out, right, line);
+        let mut left = self.con(out)?;
+        'more: while self.eat(Token::Or) {
+            let right = self.con(out)?;
+            left = out.push(Line::Two(Binary::Or, left, right));
         }
         Ok(left)
     }
 
     // con: units joined by `&`, grouped leftward.
     #[cycle(alt_con_formula_unit)]
-    fn con(&mut self, names: &[u8], out: &mut [u32], count: usize) -> Result<usize, Refusal>
-        requires { (count + length (unread self.old) < 65536) × (length (names_of names.now) < 256) }
-        ensures { Tells names.now con (unread self.old) out.old count result (unread self.new) out.new }
+    fn con(&mut self, out: &mut Output<'_>) -> Result<u8, Refusal>
+        requires { out.old.count + length (unread self.old) < 65536 }
+        ensures tells { Tells con self.old out.old result self.new out.new }
+        ensures keeps { Keeps self.old out.old self.new out.new }
     {
-        let mut left = self.unit(names, out, count)?;
-        'more: while let Token::And = self.peek() {
-            self.next_token();
-            let right = self.unit(names, out, left)?;
-            let line = Line::Two(Binary::And, last_line(left), last_line(right));
-            left = emit(out, right, line);
+        let mut left = self.unit(out)?;
+        'more: while self.eat(Token::And) {
+            let right = self.unit(out)?;
+            left = out.push(Line::Two(Binary::And, left, right));
         }
         Ok(left)
     }
 
     // unit: T, F, a listed name, a prefix before a unit, E or A with two formulas in brackets, a formula in parentheses.
     #[cycle(alt_con_formula_unit)]
-    fn unit(&mut self, names: &[u8], out: &mut [u32], count: usize) -> Result<usize, Refusal>
-        requires { (count + length (unread self.old) < 65536) × (length (names_of names.now) < 256) }
-        ensures { Tells names.now unit (unread self.old) out.old count result (unread self.new) out.new }
+    fn unit(&mut self, out: &mut Output<'_>) -> Result<u8, Refusal>
+        requires { out.old.count + length (unread self.old) < 65536 }
+        ensures tells { Tells unit self.old out.old result self.new out.new }
+        ensures keeps { Keeps self.old out.old self.new out.new }
     {
         match self.next_token() {
-            Token::True => Ok(emit(out, count, Line::True)),
-            Token::False => Ok(emit(out, count, Line::False)),
-            Token::Name(name) => match mark_of(names, name) {
-                Some(mark) => Ok(emit(out, count, Line::Mark(mark as u8))),
-                None => Err(Refusal::Text),
-            },
+            Token::True => Ok(out.push(Line::True)),
+            Token::False => Ok(out.push(Line::False)),
+            Token::Name(name) => {
+                let mark = self.marks.number(name)?;
+                Ok(out.push(Line::Mark(mark)))
+            }
             Token::Prefix(op) => {
-                let inner = self.unit(names, out, count)?;
-                Ok(emit(out, inner, Line::One(op, last_line(inner))))
+                let inner = self.unit(out)?;
+                Ok(out.push(Line::One(op, inner)))
             }
             Token::Quantifier(paths) => {
-                let Token::Left = self.next_token() else {
-                    return Err(Refusal::Text);
-                };
-                let left = self.formula(names, out, count)?;
+                self.expect(Token::Left)?;
+                let left = self.formula(out)?;
                 let Token::Between(link) = self.next_token() else {
                     return Err(Refusal::Text);
                 };
-                let right = self.formula(names, out, left)?;
-                let Token::Right = self.next_token() else {
-                    return Err(Refusal::Text);
-                };
-                let line = Line::Two(
-                    path_operator(paths, link),
-                    last_line(left),
-                    last_line(right),
-                );
-                Ok(emit(out, right, line))
+                let right = self.formula(out)?;
+                self.expect(Token::Right)?;
+                Ok(out.push(Line::Two(path_operator(paths, link), left, right)))
             }
             Token::Open => {
-                let inner = self.formula(names, out, count)?;
-                match self.next_token() {
-                    Token::Close => Ok(inner),
-                    _ => Err(Refusal::Text),
-                }
+                let inner = self.formula(out)?;
+                self.expect(Token::Close)?;
+                Ok(inner)
             }
             _ => Err(Refusal::Text),
         }
@@ -173,31 +188,46 @@ impl<'a> Reader<'a> {
 }
 
 // How many lines there are with those of the text's tree, `count` before them: the text is read, and nothing is written.
-fn count_lines(names: &[u8], text: &[u8], count: usize) -> Result<usize, Refusal>
-    requires { (count ≤ 64) × (length (names_of names.now) < 256) }
-    ensures { Counts names.now text.now count result }
+fn count_lines(marks: Marks<'_>, text: &[u8], count: usize) -> Result<usize, Refusal>
+    requires { count ≤ 64 }
+    ensures { Counts marks.entry.list.now text.now count result }
 {
     if text.len() > MOST_BYTES {
         return Err(Refusal::Text);
     }
+    let mut reader = Reader { text, at: 0, marks };
     let mut none = [0u32; 0];
-    let mut reader = Reader { text, at: 0 };
-    let Ok(total) = reader.formula(names, &mut none, count) else {
-        return Err(Refusal::Text);
+    let mut out = Output {
+        words: &mut none,
+        count,
     };
-    match reader.peek() {
-        Token::End => Ok(total),
-        _ => Err(Refusal::Text),
+    reader.formula(&mut out)?;
+    reader.expect(Token::End)?;
+    Ok(out.count)
+}
+
+// Writes the lines of the text's tree behind the first `held` words, if there is a tree and room for it, and answers how many
+// lines there are then.
+fn write_lines(marks: Marks<'_>, text: &[u8], held: usize, words: &mut [u32]) -> Result<u8, Refusal>
+    requires { held ≤ 64 }
+    ensures { Written marks.entry.list.now text.now held words.old result words.new }
+{
+    let total = count_lines(marks, text, held)?;
+    if total > words.len().min(MOST_LINES) {
+        return Err(Refusal::Full);
     }
+    let mut reader = Reader { text, at: 0, marks };
+    let mut out = Output { words, count: held };
+    reader.formula(&mut out)?;
+    Ok(total as u8)
 }
 
 // Sets the words from `from` on to zero.
 fn clear(words: &mut [u32], from: usize)
     ensures { words.new ≡ cleared from words.old }
 {
-    for i in from..words.len() {
-        words[i] = 0;
-    }
+    let from = from.min(words.len());
+    words[from..].fill(0);
 }
 
 // Appends the lines of the formula that `text` spells to the first `count` of `words`, and answers how many lines there are
@@ -213,23 +243,11 @@ pub fn append(
     ensures outcome { Outcome names.now text.now marks count words.old result words.new }
     ensures single { OneTree }
 {
-    if !proper(names, marks) {
-        return Err(Refusal::Names);
-    }
+    let marks = Marks::new(names, marks)?;
     let held = (count as usize).min(MOST_LINES);
-    let room = words.len().min(MOST_LINES);
-    let total = match count_lines(names, text, held) {
-        Ok(total) => total,
-        Err(why) => {
-            clear(words, held);
-            return Err(why);
-        }
-    };
-    if total > room {
+    let written = write_lines(marks, text, held, words);
+    if written.is_err() {
         clear(words, held);
-        return Err(Refusal::Full);
     }
-    let mut reader = Reader { text, at: 0 };
-    reader.formula(names, words, held)?;
-    Ok(total as u8)
+    written
 }

@@ -1,5 +1,5 @@
 -- Which word a line has, and which words are well formed. Assumes nothing.
-use Rattle.std.specs.Prelude.{◌≡◌, ℕ, ◌+◌, ◌*◌, ◌<◌, Ok, Err, Result}
+use Rattle.std.specs.Prelude.{◌≡◌, ℕ, ◌+◌, ◌*◌, ◌<◌, Ok, Err, Result, ◌≢◌}
 use Rattle.lines.specs.declared.Unary.{Unary}
 use Rattle.lines.specs.declared.Unary.TheVariants.{Not, Ex, Ax, Ef, Af, Eg, Ag}
 use Rattle.lines.specs.declared.Binary.{Binary}
@@ -28,6 +28,15 @@ binary_number Au = 14
 binary_number Er = 15
 binary_number Ar = 16
 
+-- what turning a number into an operator gives: the operator with that number, or a refusal where none has it
+abbrev pub UnaryNumbered : ℕ → Result Unary Refusal → Type 0
+UnaryNumbered n (Ok o) = unary_number o ≡ n
+UnaryNumbered n (Err e) = (e ≡ refusal.Line) × ((o : Unary) → unary_number o ≢ n)
+
+abbrev pub BinaryNumbered : ℕ → Result Binary Refusal → Type 0
+BinaryNumbered n (Ok o) = binary_number o ≡ n
+BinaryNumbered n (Err e) = (e ≡ refusal.Line) × ((o : Binary) → binary_number o ≢ n)
+
 -- the fields of a line: its operator's number, left and right; what an operator does not use is zero
 abbrev pub operator_of : Line → ℕ
 operator_of False = 0
@@ -54,6 +63,11 @@ pub record HasFields (l : Line) (operator left right : ℕ) : Type 0 where
   pub operator_is : operator_of l ≡ operator
   pub left_is : left_of l ≡ left
   pub right_is : right_of l ≡ right
+
+-- what finding the line with three fields gives: that line, or a refusal where there is none
+abbrev pub Fielded : ℕ → ℕ → ℕ → Result Line Refusal → Type 0
+Fielded o l r (Ok x) = HasFields x o l r
+Fielded o l r (Err e) = (e ≡ refusal.Line) × ((x : Line) → HasFields x o l r → ⊥)
 
 -- the word of a line: 4 in bits 31-28, the operator in 27-20, left in 15-8, right in 7-0
 abbrev pub word_of : Line → ℕ

@@ -2,15 +2,15 @@
 // Bits 31-28 are 4, bits 27-20 the operator's number, bits 19-16 zero, bits 15-8 the left field, bits 7-0 the right one.
 #![tactic(auto)]
 
-ghost use Rattle.std.specs.Prelude.{◌≡◌, ℕ, ◌+◌, ◌*◌, ◌<◌, Some, Decides, MatchOption, ◌≢◌};
-ghost use Rattle.lines.specs.Word.{unary_number, binary_number, HasFields, word_of, FitsAt, WellFormed, ReadsAs, Undoes};
+ghost use Rattle.std.specs.Prelude.{◌≡◌, ℕ, ◌+◌, ◌*◌, ◌<◌, Some, Decides};
+ghost use Rattle.lines.specs.Word.{unary_number, binary_number, UnaryNumbered, BinaryNumbered, Fielded, word_of, FitsAt, WellFormed, ReadsAs, Undoes};
 ghost use Rattle.lines.specs.Refusals.{number_of, name_of, shown_refusal};
 ghost use Rattle.lines.specs.Shown.{unary_name, binary_name, shown_as};
 
 use std::fmt;
 
 // The operators that take one earlier line, with their numbers.
-#[derive(Clone, Copy)]
+#[derive(Clone, Copy, PartialEq, Eq, Debug)]
 pub enum Unary {
     Not = 3,
     Ex = 7,
@@ -22,7 +22,7 @@ pub enum Unary {
 }
 
 // The operators that take two earlier lines, with their numbers.
-#[derive(Clone, Copy)]
+#[derive(Clone, Copy, PartialEq, Eq, Debug)]
 pub enum Binary {
     And = 4,
     Or = 5,
@@ -34,7 +34,7 @@ pub enum Binary {
 }
 
 // What a line says: a constant, a mark by its number, or an operator over earlier lines by their numbers.
-#[derive(Clone, Copy)]
+#[derive(Clone, Copy, PartialEq, Eq, Debug)]
 pub enum Line {
     False,
     True,
@@ -43,17 +43,17 @@ pub enum Line {
     Two(Binary, u8, u8),
 }
 
-// Why a word or a text is not taken.
-#[derive(Clone, Copy)]
+// Why a word or a text is not taken, with the numbers that reports give.
+#[derive(Clone, Copy, PartialEq, Eq, Debug)]
 pub enum Refusal {
     // the word breaks the layout, or names no mark or no earlier line
-    Line,
+    Line = 7,
     // more lines than remain
-    Full,
+    Full = 8,
     // not exactly the sheet's number of distinct names
-    Names,
+    Names = 15,
     // the text is too long or has no tree
-    Text,
+    Text = 16,
 }
 
 impl Refusal {
@@ -61,12 +61,7 @@ impl Refusal {
     pub fn number(self) -> u8
         ensures { result ≡ number_of self }
     {
-        match self {
-            Refusal::Line => 7,
-            Refusal::Full => 8,
-            Refusal::Names => 15,
-            Refusal::Text => 16,
-        }
+        self as u8
     }
 
     // The refusal's name.
@@ -104,24 +99,29 @@ impl Unary {
             Unary::Ag => "AG",
         }
     }
+}
 
-    // The operator with a number, if one of these has it.
-    pub fn numbered(number: u8) -> Option<Unary>
-        ensures { MatchOption result ((o : Unary) → unary_number o ≢ number) (λ o. unary_number o ≡ number) }
-    {
+// The operator with a number, if one of these has it.
+impl TryFrom<u8> for Unary {
+    type Error = Refusal;
+
+    ghost try_from_gives = { UnaryNumbered };
+
+    fn try_from(number: u8) -> Result<Self, Refusal> {
         match number {
-            3 => Some(Unary::Not),
-            7 => Some(Unary::Ex),
-            8 => Some(Unary::Ax),
-            9 => Some(Unary::Ef),
-            10 => Some(Unary::Af),
-            11 => Some(Unary::Eg),
-            12 => Some(Unary::Ag),
-            _ => None,
+            3 => Ok(Unary::Not),
+            7 => Ok(Unary::Ex),
+            8 => Ok(Unary::Ax),
+            9 => Ok(Unary::Ef),
+            10 => Ok(Unary::Af),
+            11 => Ok(Unary::Eg),
+            12 => Ok(Unary::Ag),
+            _ => Err(Refusal::Line),
         }
     }
 }
 
+// The same as for `Unary`, with no arm alike, so a trait over the two would share no code.
 impl Binary {
     // The operator's number.
     pub fn number(self) -> u8
@@ -144,20 +144,24 @@ impl Binary {
             Binary::Ar => "AR",
         }
     }
+}
 
-    // The operator with a number, if one of these has it.
-    pub fn numbered(number: u8) -> Option<Binary>
-        ensures { MatchOption result ((o : Binary) → binary_number o ≢ number) (λ o. binary_number o ≡ number) }
-    {
+// The operator with a number, if one of these has it.
+impl TryFrom<u8> for Binary {
+    type Error = Refusal;
+
+    ghost try_from_gives = { BinaryNumbered };
+
+    fn try_from(number: u8) -> Result<Self, Refusal> {
         match number {
-            4 => Some(Binary::And),
-            5 => Some(Binary::Or),
-            6 => Some(Binary::Implies),
-            13 => Some(Binary::Eu),
-            14 => Some(Binary::Au),
-            15 => Some(Binary::Er),
-            16 => Some(Binary::Ar),
-            _ => None,
+            4 => Ok(Binary::And),
+            5 => Ok(Binary::Or),
+            6 => Ok(Binary::Implies),
+            13 => Ok(Binary::Eu),
+            14 => Ok(Binary::Au),
+            15 => Ok(Binary::Er),
+            16 => Ok(Binary::Ar),
+            _ => Err(Refusal::Line),
         }
     }
 }
@@ -166,33 +170,23 @@ impl Binary {
 fn packed(operator: u8, left: u8, right: u8) -> u32
     ensures { result ≡ 0x40000000 + 0x100000 * operator + 0x100 * left + right }
 {
-    0x4000_0000 + 0x10_0000 * operator as u32 + 0x100 * left as u32 + right as u32
+    u32::from_be_bytes([0x40, 0, left, right]) + 0x10_0000 * operator as u32
 }
 
 // The line with these fields, if there is one: a field that the operator does not use is zero.
-fn with_fields(operator: u8, left: u8, right: u8) -> Option<Line>
-    ensures { MatchOption result ((l : Line) → HasFields l operator left right → ⊥) (λ l. HasFields l operator left right) }
+fn with_fields(operator: u8, left: u8, right: u8) -> Result<Line, Refusal>
+    ensures { Fielded operator left right result }
 {
-    if let Some(op) = Binary::numbered(operator) {
-        return Some(Line::Two(op, left, right));
+    match (operator, left, right) {
+        (0, 0, 0) => Ok(Line::False),
+        (1, 0, 0) => Ok(Line::True),
+        (2, 0, mark) => Ok(Line::Mark(mark)),
+        _ => match Binary::try_from(operator) {
+            Ok(op) => Ok(Line::Two(op, left, right)),
+            Err(why) if right != 0 => Err(why),
+            Err(_) => Unary::try_from(operator).map(|op| Line::One(op, left)),
+        },
     }
-    if let Some(op) = Unary::numbered(operator) {
-        return if right == 0 {
-            Some(Line::One(op, left))
-        } else {
-            None
-        };
-    }
-    if operator == 2 && left == 0 {
-        return Some(Line::Mark(right));
-    }
-    if operator == 1 && left == 0 && right == 0 {
-        return Some(Line::True);
-    }
-    if operator == 0 && left == 0 && right == 0 {
-        return Some(Line::False);
-    }
-    None
 }
 
 impl Line {
@@ -214,8 +208,7 @@ impl Line {
         ensures { Decides result (FitsAt at marks self) }
     {
         match self {
-            Line::False => true,
-            Line::True => true,
+            Line::False | Line::True => true,
             Line::Mark(mark) => mark < marks,
             Line::One(_, left) => left < at,
             Line::Two(_, left, right) => left < at && right < at,
@@ -231,11 +224,8 @@ impl Line {
             return Err(Refusal::Line);
         }
         let operator = ((word >> 20) % 256) as u8;
-        let left = ((word >> 8) % 256) as u8;
-        let right = (word % 256) as u8;
-        let Some(line) = with_fields(operator, left, right) else {
-            return Err(Refusal::Line);
-        };
+        let [_, _, left, right] = word.to_be_bytes();
+        let line = with_fields(operator, left, right)?;
         if line.fits(at, marks) {
             Ok(line)
         } else {
@@ -253,14 +243,8 @@ impl fmt::Display for Line {
             Line::False => write!(f, "F"),
             Line::True => write!(f, "T"),
             Line::Mark(mark) => write!(f, "mark {mark}"),
-            Line::One(op, left) => {
-                let name = op.name();
-                write!(f, "{name} {left}")
-            }
-            Line::Two(op, left, right) => {
-                let name = op.name();
-                write!(f, "{name} {left} {right}")
-            }
+            Line::One(op, left) => write!(f, "{} {left}", op.name()),
+            Line::Two(op, left, right) => write!(f, "{} {left} {right}", op.name()),
         }
     }
 }
@@ -270,8 +254,6 @@ impl fmt::Display for Refusal {
     ghost output = { λ r. Some (shown_refusal r) };
 
     fn fmt<W: fmt::Write>(&self, f: &mut fmt::Formatter<W>) -> fmt::Result {
-        let number = self.number();
-        let name = self.name();
-        write!(f, "{number} {name}")
+        write!(f, "{} {}", self.number(), self.name())
     }
 }

@@ -1,5 +1,6 @@
 -- Spaces and the bytes of names. Assumes nothing.
-use Rattle.std.specs.Prelude.{◌≡◌, ℕ, ◌+◌, ◌≤◌, Bool, true, false, cond, ◌&&◌, ◌||◌, List, [], ◌∷◌, length, ◌==◌, nat_le}
+use Rattle.std.specs.Prelude.{◌≡◌, ℕ, ◌≤◌, Bool, true, false, cond, ◌&&◌, ◌||◌, List, [], ◌∷◌, length, ◌==◌, nat_le}
+use Rattle.std.specs.List.{prefix_len}
 
 -- a small letter
 abbrev pub small : ℕ → Bool
@@ -25,8 +26,7 @@ Ended (b ∷ bs) = in_name b ≡ false
 
 -- how many bytes at the front of a text can stand in a name
 abbrev pub run : List ℕ → ℕ
-run [] = 0
-run (b ∷ bs) = cond (in_name b) (1 + run bs) 0
+run bs = prefix_len in_name bs
 
 -- a text without the spaces at its front
 abbrev pub skip : List ℕ → List ℕ

@@ -1,20 +1,11 @@
 -- A list of names in mark order, one space between two. Assumes nothing.
-use Rattle.std.specs.Prelude.{◌≡◌, ℕ, ◌+◌, ◌<◌, cond, List, [], ◌∷◌, length, get_or, ◌==◌, ◌≢◌, slice_index_or}
+use Rattle.std.specs.Prelude.{◌≡◌, ℕ, ◌<◌, List, [], ◌∷◌, length, ◌==◌, ◌≢◌, slice_index_or}
+use Rattle.std.specs.List.{slice_split}
 use Rattle.tokens.specs.Bytes.{Name}
 
--- how many bytes stand before the first space
-abbrev pub up_to : List ℕ → ℕ
-up_to [] = 0
-up_to (b ∷ bs) = cond (b == 32) 0 (1 + up_to bs)
-
 -- the parts of a text between its spaces: two spaces side by side, or one at an end, make an empty part
-abbrev pub push : ℕ → List (List ℕ) → List (List ℕ)
-push b [] = (b ∷ []) ∷ []
-push b (w ∷ ws) = (b ∷ w) ∷ ws
-
 abbrev pub parts : List ℕ → List (List ℕ)
-parts [] = [] ∷ []
-parts (b ∷ bs) = cond (b == 32) ([] ∷ parts bs) (push b (parts bs))
+parts bs = slice_split (λ b. b == 32) bs
 
 -- the names of a list: its parts, and none if it is empty
 abbrev pub names_of : List ℕ → List (List ℕ)
@@ -30,5 +21,5 @@ pub record Proper (ns : List ℕ) (a : ℕ) : Type 0 where
 -- m is the first place of the name s in the list ns
 pub record Listed (ns s : List ℕ) (m : ℕ) : Type 0 where
   pub within : m < length (names_of ns)
-  pub here : get_or (names_of ns) m [] ≡ s
+  pub here : slice_index_or (names_of ns) m [] ≡ s
   pub first : (k : ℕ) → k < m → slice_index_or (names_of ns) k [] ≢ s

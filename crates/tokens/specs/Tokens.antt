@@ -15,19 +15,6 @@ pub data Tok : Type 0 where
   t_link : Link → Tok
   tTrue tFalse tAnd tOr tImplies tOpen tClose tLeft tRight tEnd tStray : Tok
 
--- the prefixes EX and AX, EF and AF, EG and AG
-abbrev pub next_of : Paths → Unary
-next_of Exists = Ex
-next_of All = Ax
-
-abbrev pub finally_of : Paths → Unary
-finally_of Exists = Ef
-finally_of All = Af
-
-abbrev pub globally_of : Paths → Unary
-globally_of Exists = Eg
-globally_of All = Ag
-
 -- the letter E or A
 abbrev pub letter_of : Paths → ℕ
 letter_of Exists = 69
@@ -73,20 +60,10 @@ Alone (b ∷ bs) = (b ≢ 88) × (b ≢ 70) × (b ≢ 71)
 -- first letter of a two-letter keyword, and the end has nothing behind it
 abbrev pub Whole : Tok → List ℕ → Type 0
 Whole (t_name s) r = Name s × Ended r
-Whole (t_prefix o) r = Unit {0}
 Whole (t_paths q) r = Alone r
-Whole (t_link j) r = Unit {0}
-Whole tTrue r = Unit {0}
-Whole tFalse r = Unit {0}
-Whole tAnd r = Unit {0}
-Whole tOr r = Unit {0}
-Whole tImplies r = Unit {0}
-Whole tOpen r = Unit {0}
-Whole tClose r = Unit {0}
-Whole tLeft r = Unit {0}
-Whole tRight r = Unit {0}
 Whole tEnd r = r ≡ []
 Whole tStray r = ⊥
+Whole k r = Unit {0}
 
 -- the token k stands at the front of the text bs, behind any number of spaces, and r is behind it
 pub record Stands (bs : List ℕ) (k : Tok) (r : List ℕ) : Type 0 where

@@ -1,32 +1,30 @@
-use Rattle.std.proofs.Common.{refl, ap, arith}
+use Rattle.std.proofs.Common.{refl, ◌∙◌, subst}
 use borrow.Author.Tests.{both_ways}
-use Rattle.formula.specs.Words.{size}
-use Rattle.formula.proofs.Whole.{one_tree, none, its_tree, accepted, overflows, treeless}
+use Rattle.formula.specs.Tells.{Written}
+use Rattle.formula.proofs.Whole.{one_tree, settled}
 use Rattle.formula.proofs.append.Goals as goal
 
-pub returns-then-not-proper : goal.returns-then-not-proper
-returns-then-not-proper c = record { outcome = (λ p. both_ways _ c.if-not-proper.true (c.proper.ensures.1 p), refl); single = one_tree }
+pub returns-in_err-marks-clause-single : goal.returns-in_err-marks-clause-single
+returns-in_err-marks-clause-single c = one_tree
 
-pub returns-in-Err : goal.returns-in-Err
-returns-in-Err c = record {
-  outcome = treeless c.args.count c.min-held.result c.min-room.result c.args.words.now (c.proper.ensures.0 c.if-not-proper.false) c.min-held.ensures c.min-room.ensures
-      c.in-Err.why c.in-Err.ensures c.clear.ensures;
-  single = one_tree;
-}
+pub returns-then-is_err-clause-single : goal.returns-then-is_err-clause-single
+returns-then-is_err-clause-single c = one_tree
 
-pub returns-then-total-room : goal.returns-then-total-room
-returns-then-total-room c = let h = c.in-Ok.ensures in record {
-  outcome = overflows c.args.count c.min-held.result c.min-room.result c.args.words.now (c.proper.ensures.0 c.if-not-proper.false) c.min-held.ensures c.min-room.ensures
-      h.1 h.2 c.if-total-room.true c.clear-then-total-room.ensures;
-  single = one_tree;
-}
+pub returns-else-is_err-clause-single : goal.returns-else-is_err-clause-single
+returns-else-is_err-clause-single c = one_tree
 
-pub returns-in_err-formula : goal.returns-in_err-formula
-returns-in_err-formula c = let h = c.in-Ok.ensures in absurd (none c.in_err-formula.ensures h.1.short h.0 h.1.spelled)
+pub returns-then-is_err-clause-outcome : goal.returns-then-is_err-clause-outcome
+returns-then-is_err-clause-outcome c =
+    let i = c.in_ok-marks.ensures in
+    let w = c.write_lines-written.ensures in
+    settled c.args.names.now c.args.text.now c.args.marks c.args.count c.min-held.result c.args.words.now c.write_lines-written.result c.write_lines-written.new.words c.clear.new.words
+    i.1 c.min-held.ensures (subst (λ ns. Written ns c.args.text.now c.min-held.result c.args.words.now c.write_lines-written.result c.write_lines-written.new.words) i.0 w)
+    (λ e. c.clear.ensures) (λ e. absurd (both_ways _ (c.is_err.ensures.value ∙ e) c.if-is_err.true))
 
-pub returns : goal.returns
-returns c = let h = c.in-Ok.ensures in let g = c.in_ok-formula.ensures in let same = its_tree g.1 h.1.spelled in record {
-  outcome = accepted c.args.count c.min-held.result c.min-room.result c.args.words.now (c.proper.ensures.0 c.if-not-proper.false) c.min-held.ensures c.min-room.ensures
-      h.1 h.2 c.if-total-room.false same (g.3 (omega (arith, g.2, h.2, c.if-total-room.false, c.min-room.ensures, ap size same)));
-  single = one_tree;
-}
+pub returns-else-is_err-clause-outcome : goal.returns-else-is_err-clause-outcome
+returns-else-is_err-clause-outcome c =
+    let i = c.in_ok-marks.ensures in
+    let w = c.write_lines-written.ensures in
+    settled c.args.names.now c.args.text.now c.args.marks c.args.count c.min-held.result c.args.words.now c.write_lines-written.result c.write_lines-written.new.words c.write_lines-written.new.words
+    i.1 c.min-held.ensures (subst (λ ns. Written ns c.args.text.now c.min-held.result c.args.words.now c.write_lines-written.result c.write_lines-written.new.words) i.0 w)
+    (λ e. absurd (both_ways _ c.if-is_err.false (c.is_err.ensures.value ∙ e))) (λ e. refl)

@@ -1,10 +1,13 @@
-use Rattle.std.proofs.Common.{arith, eq-eqb, eqb-true}
-use Rattle.tokens.proofs.Lists.{name_is, name_length}
+use Rattle.std.proofs.Common.{rules, sym, ◌∙◌}
+use borrow.Author.Tests.{tests}
+use Rattle.std.proofs.lemmas.Iterator.{YieldsList-from_slice}
+use Rattle.std.proofs.lemmas.Iterator.Search.{all_from_yields_List}
+use Rattle.tokens.specs.Bytes.{in_name}
+use Rattle.tokens.proofs.Lists.{name_of}
 use Rattle.tokens.proofs.names.is_name.Goals as goal
 
-pub returns-then-n-le-MOST_BEHIND : goal.returns-then-n-le-MOST_BEHIND
-returns-then-n-le-MOST_BEHIND c =
-    let bs = c.args.bytes.now in let e = c.name_len-n.ensures.is in (
-      λ t. name_is bs c.name_len-n.result (omega arith) (omega arith) (omega arith) e c.if-n-le-MOST_BEHIND.true (eqb-true _ _ t),
-      λ h. eq-eqb _ _ (name_length bs c.name_len-n.result e h).1,
-    )
+pub returns-then-behind-le-MOST_BEHIND : goal.returns-then-behind-le-MOST_BEHIND
+returns-then-behind-le-MOST_BEHIND c =
+    let t = c.if-behind-le-MOST_BEHIND.true in
+    name_of c.in-Some.first.now c.in-Some.behind.now c.args.bytes.now c.all.result c.in-Some.ensures.cases.0 (sym c.is_ascii_lowercase.ensures.value ∙ t.0) t.1
+    (all_from_yields_List in_name _ _ c.all.result c.all.ensures.ran (YieldsList-from_slice c.in-Some.behind.now c.iter.ensures.rest) (λ x b q k. search (rules, tests)))
