@@ -1,5 +1,6 @@
 // What is printed of an answer.
 use crate::plan::VALUE_NAMES;
+use scale::Logic;
 use sheet::Refusal;
 use std::fmt;
 
@@ -29,10 +30,11 @@ impl fmt::Display for Answer {
     }
 }
 
-impl From<Result<u32, Refusal>> for Answer {
-    fn from(read: Result<u32, Refusal>) -> Answer {
+impl Answer {
+    // What a reading answers; the value goes by its number.
+    pub(crate) fn reading<L: Logic>(logic: &L, read: Result<L::Value, Refusal>) -> Answer {
         match read {
-            Ok(number) => Answer::Value(number),
+            Ok(value) => Answer::Value(logic.number(value).unwrap_or(0)),
             Err(why) => Answer::Refused(why),
         }
     }

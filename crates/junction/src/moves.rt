@@ -5,15 +5,16 @@ use crate::entry::Entry;
 use scale::Logic;
 use sheet::{Draft, Refusal, Settled};
 
-// What two readings answer: the numbers of the values, or why there is none.
-pub type Readings = (Result<u32, Refusal>, Result<u32, Refusal>);
-
 // Reads a line at two stages, and reopens the sheet.
-pub fn twice_read<L: Logic>(settled: Settled, desk: &Desk<'_, L>, line: u8) -> (Draft, Readings) {
+pub fn twice_read<L: Logic>(
+    settled: Settled,
+    desk: &Desk<'_, L>,
+    line: u8,
+) -> (Draft, Result<L::Value, Refusal>, Result<L::Value, Refusal>) {
     let first = desk.read(&settled, line, 0);
     let second = desk.read(&settled, line, 1);
     let draft = desk.reopen(settled);
-    (draft, (first, second))
+    (draft, first, second)
 }
 
 // Enters the arrow from stage 0 to stage 3 twice, the later value standing, and settles the draft.

@@ -48,7 +48,7 @@ fn read_formulas<L: Logic>(
     desk: &Desk<'_, L>,
 ) -> io::Result<()> {
     for (text, line) in plan::FORMULAS {
-        let answer = Answer::from(desk.read(settled, line, 0));
+        let answer = Answer::reading(desk.logic, desk.read(settled, line, 0));
         println!(rt; "read {text} at 0: {answer}")?;
     }
     Ok(())
@@ -57,7 +57,7 @@ fn read_formulas<L: Logic>(
 // Reads the lines that were entered as words, and one that there is not, at the stage all red.
 fn read_lines<L: Logic>(rt: &HostRuntime, settled: &Settled, desk: &Desk<'_, L>) -> io::Result<()> {
     for line in 38..43u8 {
-        let answer = Answer::from(desk.read(settled, line, 0));
+        let answer = Answer::reading(desk.logic, desk.read(settled, line, 0));
         println!(rt; "read line {line} at 0: {answer}")?;
     }
     Ok(())
@@ -66,9 +66,11 @@ fn read_lines<L: Logic>(rt: &HostRuntime, settled: &Settled, desk: &Desk<'_, L>)
 // Reads the first formula at two stages, reopens the sheet, changes an arrow (by mistake to F, then to T), settles the sheet
 // and reads it again.
 fn change<L: Logic>(rt: &HostRuntime, settled: Settled, desk: &mut Desk<'_, L>) -> io::Result<()> {
-    let (draft, (first, second)) = twice_read(settled, desk, 1);
-    println!(rt; "read line 1 at 0: {}", Answer::from(first))?;
-    println!(rt; "read line 1 at 1: {}", Answer::from(second))?;
+    let (draft, first, second) = twice_read(settled, desk, 1);
+    let first = Answer::reading(desk.logic, first);
+    let second = Answer::reading(desk.logic, second);
+    println!(rt; "read line 1 at 0: {first}")?;
+    println!(rt; "read line 1 at 1: {second}")?;
     println!(rt; "reopen")?;
     print!(rt; "arrow 0 3 value 0, arrow 0 3 value 5, settle: ")?;
     match entered_twice(draft, desk, 0, 5) {

@@ -66,7 +66,7 @@ fn rounds<L: Logic>(desk: &mut Desk<'_, L>, stages: u8, entries: &[Entry]) -> u8
 // The number of the value read, or 100 and the number of the refusal.
 fn reading<L: Logic>(desk: &Desk<'_, L>, sheet: &Settled, line: u8, stage: u8) -> u32 {
     match desk.read(sheet, line, stage) {
-        Ok(number) => number,
+        Ok(value) => desk.logic.number(value).unwrap_or(99),
         Err(why) => why.number() as u32 + 100,
     }
 }
