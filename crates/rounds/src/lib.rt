@@ -54,7 +54,7 @@ impl<L: Logic> Given<'_, L> {
         requires row_size { length row.old ≡ self.now.stages }
         requires work_size { length work.now ≡ self.now.stages }
         requires prepared { (k : ℕ) × Prepared (ops_at L.Logic self.now.logic.now) self.now.stages self.now.marks self.now.values.now step k work.now }
-        ensures { RowOf (ops_at L.Logic self.now.logic.now) (plan_of (ops_at L.Logic self.now.logic.now) self.now.stages self.now.marks self.now.values.now) self.now.values.now step (at (ops_at L.Logic self.now.logic.now) row.new) }
+        ensures { let o = ops_at L.Logic self.now.logic.now in let p = plan_of o self.now.stages self.now.marks self.now.values.now in RowOf o p self.now.values.now step (at o row.new) }
     {
         match step {
             Step::Mark(m) => write(row, |i| self.mark(m, i)),
@@ -91,7 +91,7 @@ impl<L: Logic> Given<'_, L> {
         requires row_size { self.now.stages ≤ length row.old }
         requires work_size { length work.old ≡ self.now.stages }
         requires next_size { self.now.stages ≤ length next.old }
-        ensures row { RowSettled (ops_at L.Logic self.now.logic.now) self.now.stages self.now.marks self.now.values.now step result (at (ops_at L.Logic self.now.logic.now) row.new) }
+        ensures row { let o = ops_at L.Logic self.now.logic.now in RowSettled o self.now.stages self.now.marks self.now.values.now step result (at o row.new) }
         ensures beside { KeptFrom (ops_at L.Logic self.now.logic.now) self.now.stages row.old row.new }
         ensures behind { KeptFrom (ops_at L.Logic self.now.logic.now) self.now.stages next.old next.new }
     {

@@ -41,7 +41,7 @@ impl<L: Logic> Given<'_, L> {
     pub(crate) fn mark(&self, m: usize, i: usize) -> L::Value
         requires stage { i < self.now.stages }
         requires mark { m < self.now.marks }
-        ensures { result ≡ as_read (ops_at L.Logic self.now.logic.now) ((plan_of (ops_at L.Logic self.now.logic.now) self.now.stages self.now.marks self.now.values.now).mark i m) }
+        ensures { let o = ops_at L.Logic self.now.logic.now in let p = plan_of o self.now.stages self.now.marks self.now.values.now in result ≡ as_read o (p.mark i m) }
     {
         let n = self.stages;
         self.logic
@@ -51,7 +51,7 @@ impl<L: Logic> Given<'_, L> {
     // The opposite of a row's entry at stage i.
     pub(crate) fn opposite(&self, row: &[L::Value], i: usize) -> L::Value
         requires { i < length row.now }
-        ensures { result ≡ (ops_at L.Logic self.now.logic.now).opposite (at (ops_at L.Logic self.now.logic.now) row.now i) }
+        ensures { let o = ops_at L.Logic self.now.logic.now in result ≡ o.opposite (at o row.now i) }
     {
         self.logic.opposite(row[i])
     }
@@ -73,7 +73,7 @@ impl<L: Logic> Given<'_, L> {
     pub(crate) fn ex(&self, row: &[L::Value], i: usize) -> L::Value
         requires stage { i < self.now.stages }
         requires row { IsRow (ops_at L.Logic self.now.logic.now) self.now.stages row.now }
-        ensures { result ≡ ex (ops_at L.Logic self.now.logic.now) (plan_of (ops_at L.Logic self.now.logic.now) self.now.stages self.now.marks self.now.values.now) (at (ops_at L.Logic self.now.logic.now) row.now) i }
+        ensures { let o = ops_at L.Logic self.now.logic.now in let p = plan_of o self.now.stages self.now.marks self.now.values.now in result ≡ ex o p (at o row.now) i }
     {
         let from = i * self.stages;
         let arrows = &self.values[from..from + self.stages];
@@ -90,7 +90,7 @@ impl<L: Logic> Given<'_, L> {
         requires stage { i < self.now.stages }
         requires row { IsRow (ops_at L.Logic self.now.logic.now) self.now.stages row.now }
         requires turned { Turned (ops_at L.Logic self.now.logic.now) self.now.stages paths row.now turned.now }
-        ensures { result ≡ next (ops_at L.Logic self.now.logic.now) (plan_of (ops_at L.Logic self.now.logic.now) self.now.stages self.now.marks self.now.values.now) paths (at (ops_at L.Logic self.now.logic.now) row.now) i }
+        ensures { let o = ops_at L.Logic self.now.logic.now in let p = plan_of o self.now.stages self.now.marks self.now.values.now in result ≡ next o p paths (at o row.now) i }
     {
         match paths {
             Paths::One => self.ex(row, i),
@@ -114,7 +114,7 @@ impl<L: Logic> Given<'_, L> {
         requires lies { step_by self.now.stages self.now.marks (length self.now.values.now) (Settling until) ≡ true }
         requires row { IsRow (ops_at L.Logic self.now.logic.now) self.now.stages row.now }
         requires turned { Turned (ops_at L.Logic self.now.logic.now) self.now.stages until.paths row.now turned.now }
-        ensures { result ≡ round_of (ops_at L.Logic self.now.logic.now) (plan_of (ops_at L.Logic self.now.logic.now) self.now.stages self.now.marks self.now.values.now) self.now.values.now until (at (ops_at L.Logic self.now.logic.now) row.now) i }
+        ensures { let o = ops_at L.Logic self.now.logic.now in let p = plan_of o self.now.stages self.now.marks self.now.values.now in result ≡ round_of o p self.now.values.now until (at o row.now) i }
     {
         let Until { paths, before, end } = until;
         let next = self.next(paths, row, turned, i);

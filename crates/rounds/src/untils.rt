@@ -38,7 +38,7 @@ impl<L: Logic> Given<'_, L> {
         requires row { IsRow (ops_at L.Logic self.now.logic.now) self.now.stages row.now }
         requires turned_size { length turned.old ≡ self.now.stages }
         requires next_size { length next.old ≡ self.now.stages }
-        ensures { Same self.now.stages (at (ops_at L.Logic self.now.logic.now) next.new) (round_of (ops_at L.Logic self.now.logic.now) (plan_of (ops_at L.Logic self.now.logic.now) self.now.stages self.now.marks self.now.values.now) self.now.values.now until (at (ops_at L.Logic self.now.logic.now) row.now)) }
+        ensures { let o = ops_at L.Logic self.now.logic.now in let p = plan_of o self.now.stages self.now.marks self.now.values.now in Same self.now.stages (at o next.new) (round_of o p self.now.values.now until (at o row.now)) }
     {
         self.turn(until.paths, row, turned);
         let turned = &*turned;
