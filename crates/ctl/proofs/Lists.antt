@@ -129,7 +129,7 @@ module _ {V : Type 0} (o : Ops V) where
     takes (until w f g) = λ x y vx vy.
         let a = at o (value o p f) in let b = at o (value o p g) in
         rounds_same o p.stages _ (round o p w a b) (round o p w x y)
-        (other_rows o c p w a b x y (value_once o c p f a x (computed f) vx) (value_once o c p g b y (computed g) vy))
+        (other_rows o p w a b x y (value_once o c p f a x (computed f) vx) (value_once o c p g b y (computed g) vy))
         (count_lists c p.stages (round o p w a b) (steady o c p w a b))
 
 pub value_computed : {V : Type 0} (o : Ops V) → Cutting o → ValueComputed o

@@ -1,5 +1,5 @@
-pub mod Entries
 pub mod Bounds
-pub mod Writes
+pub mod Zips
 pub mod Turns
 pub mod Lines
+pub mod Entries

@@ -1,157 +1,127 @@
--- A line's row is prepared and written; it is the value of the line's formula.
-use Rattle.std.proofs.Common.{◌≡◌, ℕ, ◌+◌, ◌≤◌, true, ◌⊎◌, List, length, sym, refl, ap, ◌∙◌, subst, inl, inr, ⊎_elim, arith}
-use Rattle.std.proofs.lemmas.Bool.{and_parts, ltb-true, cond-true}
+-- The row of a step is a row of values; it is the value of the line's formula.
+use Rattle.std.proofs.Common.{◌≡◌, ℕ, ◌+◌, ◌-◌, ◌*◌, ◌<◌, ◌≤◌, true, ◌&&◌, List, ◌++◌, length, get_or, take, drop, sym, refl, ap, ◌∙◌, subst, ap₂, ⊎_elim, arith}
+use Rattle.std.proofs.lemmas.Bool.{and_parts, ltb-true, leb-true, cond-true}
+use Rattle.std.proofs.lemmas.List.{get_or-take, get_or-drop, get_or_append_left, get_or-append_right}
 use Rattle.ctl.specs.Operations.{Ops, Valid, as_read}
 use Rattle.ctl.specs.Formulas.{Plan, Formula}
-use Rattle.ctl.specs.Values.{Row, Same, Least, Value, Rounds, round}
-use Rattle.ctl.proofs.Cuts.{Cutting, joined_valid}
-use Rattle.ctl.proofs.Stand.{steady, step_same}
+use Rattle.ctl.specs.Values.{Row, Same, Least, Value, after, Rounds, round, ex, ax}
+use Rattle.ctl.specs.Computed.{at}
+use Rattle.ctl.proofs.Cuts.{Sound, Cutting, joined_valid}
 use Rattle.ctl.proofs.Agree.{value_valid, value_once}
-use Rattle.ctl.proofs.Alike.{least_same, rounds_same, other_rows, value_same}
+use Rattle.ctl.proofs.Alike.{ex_alike, ax_alike, after_alike, least_alike, least_same, rounds_same, round_same, other_rows, value_same}
 use Rattle.steps.specs.declared.Side.{Side}
 use Rattle.steps.specs.declared.Side.TheVariants.{Bottom, Top, At, Not}
 use Rattle.steps.specs.declared.Until.{Until}
 use Rattle.steps.specs.declared.Step.{Step}
 use Rattle.steps.specs.declared.Step.TheVariants.{Mark, Copied, And, Or, Ex, Ax, Until as Untils, Dual}
-use Rattle.rounds.specs.declared.rows.Source.{Source}
-use Rattle.rounds.specs.declared.rows.Source.TheVariants as source
-use Rattle.steps.specs.Stretch.{row, HoldsValues, plan_of}
-use Rattle.steps.specs.Steps.{side_of, round_of, RowOf, CountOf, side_formula, formula_of, SideValued, Valued, StepTakes, side_by}
-use Rattle.rounds.specs.Sources.{source_of, SideRows, SourceRows, ValueRows, MarksBy, Writable, Written}
-use Rattle.rounds.specs.Rests.{Rested}
-use Rattle.rounds.specs.Settled.{Settled, Prepared}
+use Rattle.steps.specs.Stretch.{row, plan_of, Kept}
+use Rattle.steps.specs.Steps.{side_of, round_of, RowOf, CountOf, side_formula, formula_of, SideValued, Valued, StepTakes, side_by, step_by}
 use Rattle.steps.proofs.Laid.{Placed}
-use Rattle.rounds.proofs.Bounds.{side_lies}
-use Rattle.rounds.proofs.Turns.{ex_agrees}
+use Rattle.rounds.specs.Rows.{IsRow, Prepared, RowSettled, KeptFrom}
+use Rattle.rounds.specs.Settled.{Settled}
+use Rattle.rounds.proofs.Bounds.{row_ends, marks_end}
+use Rattle.rounds.proofs.Turns.{ex_same}
 
-module _ {V : Type 0} (o : Ops V) (c : Cutting o) (reads : (v : V) → o.opposite (as_read o v) ≡ o.opposite v) (n a to work : ℕ) (s : List V) where
-  -- a side is a row of values
-  side_valid : (l : List V) (f : Side) (i : ℕ) → Valid o (side_of o l f i)
-  side_valid l Bottom i = c.answers.lowest_valid
-  side_valid l Top i = c.answers.highest_valid
-  side_valid l (At x) i = c.answers.read_valid _
-  side_valid l (Not x) i = c.answers.opposite_valid _
+-- a side is a row of values
+pub side_valid : {V : Type 0} (o : Ops V) → Sound o → (s : List V) (f : Side) (i : ℕ) → Valid o (side_of o s f i)
+side_valid o a s Bottom i = a.lowest_valid
+side_valid o a s Top i = a.highest_valid
+side_valid o a s (At x) i = a.read_valid _
+side_valid o a s (Not x) i = a.opposite_valid _
 
-  source_valid : (l : List V) (from : Source) (i : ℕ) → Valid o (source_of o n l from i)
-  source_valid l (source.Mark m b) i = c.answers.read_valid _
-  source_valid l (source.Copied f) i = side_valid l f i
-  source_valid l (source.And f g) i = c.answers.meet_valid _ _
-  source_valid l (source.Or f g) i = c.answers.join_valid _ _
-  source_valid l (source.Ex x) i = joined_valid o c.answers n _
-  source_valid l (source.NotEx x) i = c.answers.opposite_valid _
-  source_valid l (source.Round u z turned) i = c.answers.join_valid _ _
+pub side_row : {V : Type 0} (o : Ops V) → Sound o → (n : ℕ) (s xs : List V) (f : Side) → length xs ≡ n → Same n (at o xs) (side_of o s f) → IsRow o n xs
+side_row o a n s xs f size e = record { size = size; values = λ i h. subst (Valid o) (sym (e i (omega (arith, h, size)))) (side_valid o a s f i) }
 
-  -- a row can be written to a work row
-  pub load_ready : (step : Step) (f : Side) → Placed n a step to work (length s) → side_by n to f ≡ true → Writable o n s (source.Copied f) work
-  load_ready step f p b = record {
-    inside = omega (arith, p.work_rows);
-    arrows = omega (arith, p.entries, p.to_row);
-    marks = tt;
-    rows = side_lies n to work (length s) f (omega (arith, p.to_row)) (omega (arith, p.to_row, p.work_rows)) b;
-    values = tt;
-  }
+-- AX of a row of the stretch, by EX of a row of its opposites
+pub ax_row : {V : Type 0} (o : Ops V) → ((v : V) → o.opposite (as_read o v) ≡ o.opposite v) → (n a : ℕ) (s : List V) (place : ℕ) (xs ys : List V) →
+    Same n (at o xs) (side_of o s (Not place)) → Same n (at o ys) (λ i. o.opposite (ex o (plan_of o n a s) (at o xs) i)) → Same n (at o ys) (ax o (plan_of o n a s) (side_of o s (At place)))
+ax_row o reads n a s place xs ys e f i h =
+    f i h ∙ ap o.opposite (ex_same o (plan_of o n a s) (at o xs) (λ t. o.opposite (side_of o s (At place) t)) (λ k l. e k l ∙ sym (reads (row o s place k))) i)
 
-  -- the line's own row can be written from what lies before it, or from the first work row
-  ready : (t : List V) (step : Step) (from : Source) → Placed n a step to work (length s) → length t ≡ length s → MarksBy n to from →
-      SourceRows (λ x. (x + n ≤ length t) × ((x + n ≤ to) ⊎ (to + n ≤ x))) from → ValueRows (HoldsValues o n t) from → Writable o n t from to
-  ready t step from p len marks rows values = record {
-    inside = omega (arith, p.to_row, p.work_rows, len);
-    arrows = omega (arith, p.entries);
-    marks = marks;
-    rows = rows;
-    values = values;
-  }
+-- entries of lists in parts
+pub tail_kept : {V : Type 0} (d : V) (n : ℕ) (old new rest : List V) → length new ≡ n → rest ≡ drop n old → (i : ℕ) → n ≤ i → get_or (new ++ rest) i d ≡ get_or old i d
+tail_kept d n old new rest size is i h =
+    get_or-append_right new rest n i d size h ∙ ap (λ l. get_or l (i - n) d) is ∙ get_or-drop n old (i - n) d ∙ ap (λ k. get_or old k d) (let e : n + (i - n) ≡ i = omega (arith, h) in e)
 
-  lies : (step : Step) (f : Side) → Placed n a step to work (length s) → side_by n to f ≡ true → SideRows (λ x. (x + n ≤ length s) × ((x + n ≤ to) ⊎ (to + n ≤ x))) f
-  lies step f p b = side_lies n to to (length s) f (omega arith) (omega (arith, p.to_row, p.work_rows)) b
+pub parts_kept : {V : Type 0} (d : V) (n m : ℕ) (old front new back : List V) → length front ≡ n → back ≡ drop n old → ((i : ℕ) → m ≤ i → get_or new i d ≡ get_or back i d) →
+    (i : ℕ) → n + m ≤ i → get_or (front ++ new) i d ≡ get_or old i d
+parts_kept d n m old front new back size is same i h =
+    get_or-append_right front new n i d size (omega (arith, h)) ∙ same (i - n) (omega (arith, h)) ∙ ap (λ l. get_or l (i - n) d) is ∙ get_or-drop n old (i - n) d
+    ∙ ap (λ k. get_or old k d) (let e : n + (i - n) ≡ i = omega (arith, h) in e)
 
-  -- a step that changes nothing first
-  as_it_is : (step : Step) (from : Source) → Placed n a step to work (length s) → RowOf o (plan_of o n a s) s step (source_of o n s from) → CountOf o (plan_of o n a s) s step 0 →
-      MarksBy n to from → SourceRows (λ x. (x + n ≤ length s) × ((x + n ≤ to) ⊎ (to + n ≤ x))) from → ValueRows (HoldsValues o n s) from → Prepared o n a step to work s from 0 s
-  as_it_is step from p row_is count_is marks rows values = record {
-    row_is = row_is;
-    count_is = count_is;
-    few = omega arith;
-    writable = ready s step from p refl marks rows values;
-    spared = λ k off away. refl;
-  }
+-- what a step says of its count and of the row that its own is written from
+pub count_of : {V : Type 0} (o : Ops V) (n a : ℕ) (s : List V) (step : Step) (k : ℕ) (xs : List V) → Prepared o n a s step k xs → CountOf o (plan_of o n a s) s step k × (k ≤ n)
+count_of o n a s (Mark m) k xs p = (p, omega (arith, p))
+count_of o n a s (Copied f) k xs p = (p, omega (arith, p))
+count_of o n a s (And f g) k xs p = (p, omega (arith, p))
+count_of o n a s (Or f g) k xs p = (p, omega (arith, p))
+count_of o n a s (Ex place) k xs p = (p.0, omega (arith, p.0))
+count_of o n a s (Ax place) k xs p = (p.0, omega (arith, p.0))
+count_of o n a s (Untils u) k xs p = (p.count, p.few)
+count_of o n a s (Dual u) k xs p = (p.count, p.few)
 
-  pub mark_prepared : (m : ℕ) → Placed n a (Mark m) to work (length s) → Prepared o n a (Mark m) to work s (source.Mark m a) 0 s
-  mark_prepared m p = as_it_is (Mark m) (source.Mark m a) p (λ i h. refl) refl (ltb-true _ _ p.named, p.entries) tt tt
+-- steps over t' and over s that agree before a place
+module _ {V : Type 0} (o : Ops V) (n a end : ℕ) (s t' : List V) (agree : (k : ℕ) → k < end → get_or t' k o.lowest ≡ get_or s k o.lowest) (entries : n * n + n * a ≤ end) where
+  side_agrees : (f : Side) → side_by n end f ≡ true → (i : ℕ) → i < n → side_of o t' f i ≡ side_of o s f i
+  side_agrees Bottom b i h = refl
+  side_agrees Top b i h = refl
+  side_agrees (At x) b i h = ap (as_read o) (agree (x + i) (omega (arith, leb-true _ _ b)))
+  side_agrees (Not x) b i h = ap o.opposite (agree (x + i) (omega (arith, leb-true _ _ b)))
 
-  pub copied_prepared : (f : Side) → Placed n a (Copied f) to work (length s) → Prepared o n a (Copied f) to work s (source.Copied f) 0 s
-  copied_prepared f p = as_it_is (Copied f) (source.Copied f) p (λ i h. refl) refl tt (lies (Copied f) f p p.named) tt
+  -- the arrows lie before the place
+  arrows : (i t : ℕ) → i < n → t < n → get_or t' (i * n + t) o.lowest ≡ get_or s (i * n + t) o.lowest
+  arrows i t h k = let ends = row_ends i n end h (omega (arith, entries)) in agree (i * n + t) (omega arith)
 
-  pub and_prepared : (f g : Side) → Placed n a (And f g) to work (length s) → Prepared o n a (And f g) to work s (source.And f g) 0 s
-  and_prepared f g p =
-      let both = and_parts _ _ p.named in
-      as_it_is (And f g) (source.And f g) p (λ i h. refl) refl tt (lies (And f g) f p both.0, lies (And f g) g p both.1) tt
+  abbrev plan_s : Plan V
+  plan_s = plan_of o n a s
 
-  pub or_prepared : (f g : Side) → Placed n a (Or f g) to work (length s) → Prepared o n a (Or f g) to work s (source.Or f g) 0 s
-  or_prepared f g p =
-      let both = and_parts _ _ p.named in
-      as_it_is (Or f g) (source.Or f g) p (λ i h. refl) refl tt (lies (Or f g) f p both.0, lies (Or f g) g p both.1) tt
+  abbrev plan_t : Plan V
+  plan_t = plan_of o n a t'
 
-  module _ (t : List V) (len : length t ≡ length s) where
-    -- the first work row lies behind the line's row
-    behind : (step : Step) → Placed n a step to work (length s) → (work + n ≤ length t) × ((work + n ≤ to) ⊎ (to + n ≤ work))
-    behind step p = (omega (arith, p.work_rows, len), inr p.to_row)
+  after_agrees : (u : Until) → (side_by n end u.before && side_by n end u.end) ≡ true → (k : ℕ) → Same n (after o (round_of o plan_t t' u) k) (after o (round_of o plan_s s u) k)
+  after_agrees u b =
+      let both = and_parts _ _ b in
+      after_alike o n plan_t.arrow plan_s.arrow plan_t.mark plan_s.mark arrows u.paths (side_of o t' u.before) (side_of o t' u.end) (side_of o s u.before) (side_of o s u.end) (side_agrees u.before both.0) (side_agrees u.end both.1)
 
-    -- a side that was written to the first work row
-    loaded : (f : Side) → Written o n (source.Copied f) work s t → HoldsValues o n t work
-    loaded f w i h = subst (Valid o) (sym (w.entries i h)) (side_valid s f i)
+  least_agrees : (u : Until) → (side_by n end u.before && side_by n end u.end) ≡ true → (x : Row V) → Least o n (round_of o plan_t t' u) x → Least o n (round_of o plan_s s u) x
+  least_agrees u b =
+      let both = and_parts _ _ b in
+      least_alike o n plan_t.arrow plan_s.arrow plan_t.mark plan_s.mark arrows u.paths (side_of o t' u.before) (side_of o t' u.end) (side_of o s u.before) (side_of o s u.end) (side_agrees u.before both.0) (side_agrees u.end both.1)
 
-    pub ex_prepared : (x : ℕ) → Placed n a (Ex x) to work (length s) → Written o n (source.Copied (At x)) work s t →
-        Prepared o n a (Ex x) to work s (source.Ex work) 0 t
-    ex_prepared x p w = record {
-      row_is = ex_agrees o n to s t (λ k b. w.kept k (inl (omega (arith, p.to_row)))) (omega (arith, p.entries)) (row o t work) (side_of o s (At x)) w.entries;
-      count_is = refl;
-      few = omega arith;
-      writable = ready t (Ex x) (source.Ex work) p len tt (behind (Ex x) p) (loaded (At x) w);
-      spared = λ k off away. w.kept k (⊎_elim (λ h. inl h) (λ h. inr (omega arith)) away);
-    }
+  row_agrees : (step : Step) → step_by n a end step ≡ true → (x : Row V) → RowOf o plan_t t' step x → RowOf o plan_s s step x
+  row_agrees (Mark m) b x r = λ i h. let lt = ltb-true _ _ b in let ends = marks_end i n a h in r i h ∙ ap (as_read o) (agree (n * n + (i * a + m)) (omega (arith, entries, ends, lt)))
+  row_agrees (Copied f) b x r = λ i h. r i h ∙ side_agrees f b i h
+  row_agrees (And f g) b x r = λ i h. let both = and_parts _ _ b in r i h ∙ ap₂ o.meet (side_agrees f both.0 i h) (side_agrees g both.1 i h)
+  row_agrees (Or f g) b x r = λ i h. let both = and_parts _ _ b in r i h ∙ ap₂ o.join (side_agrees f both.0 i h) (side_agrees g both.1 i h)
+  row_agrees (Ex place) b x r = λ i h. r i h ∙ ex_alike o n plan_t.arrow plan_s.arrow plan_t.mark plan_s.mark arrows (side_of o t' (At place)) (side_of o s (At place)) (side_agrees (At place) b) i h
+  row_agrees (Ax place) b x r = λ i h. r i h ∙ ax_alike o n plan_t.arrow plan_s.arrow plan_t.mark plan_s.mark arrows (side_of o t' (At place)) (side_of o s (At place)) (side_agrees (At place) b) i h
+  row_agrees (Untils u) b x r = least_agrees u b x r
+  row_agrees (Dual u) b x r = (r.0, least_agrees u b r.0 r.1, r.2)
 
-    pub ax_prepared : (x : ℕ) → Placed n a (Ax x) to work (length s) → Written o n (source.Copied (Not x)) work s t →
-        Prepared o n a (Ax x) to work s (source.NotEx work) 0 t
-    ax_prepared x p w = record {
-      row_is = λ i h. ap o.opposite
-          (ex_agrees o n to s t (λ k b. w.kept k (inl (omega (arith, p.to_row)))) (omega (arith, p.entries)) (row o t work) (λ j. o.opposite (side_of o s (At x) j))
-          (λ j u. w.entries j u ∙ sym (reads (row o s x j))) i h);
-      count_is = refl;
-      few = omega arith;
-      writable = ready t (Ax x) (source.NotEx work) p len tt (behind (Ax x) p) (loaded (Not x) w);
-      spared = λ k off away. w.kept k (⊎_elim (λ h. inl h) (λ h. inr (omega arith)) away);
-    }
+  count_agrees : (step : Step) → step_by n a end step ≡ true → (k : ℕ) → CountOf o plan_t t' step k → CountOf o plan_s s step k
+  count_agrees (Mark m) b k r = r
+  count_agrees (Copied f) b k r = r
+  count_agrees (And f g) b k r = r
+  count_agrees (Or f g) b k r = r
+  count_agrees (Ex place) b k r = r
+  count_agrees (Ax place) b k r = r
+  count_agrees (Untils u) b k r = rounds_same o n k _ _ (after_agrees u b) r
+  count_agrees (Dual u) b k r = rounds_same o n k _ _ (after_agrees u b) r
 
-    module _ (u : Until) (k : ℕ) (r : Rested o n u work to s k t) where
-      -- as it is read, the least solution is the same
-      read_least : Least o n (round_of o (plan_of o n a s) s u) (side_of o t (At work))
-      read_least =
-          let same : Same n (row o t work) (side_of o t (At work)) = λ i h.
-          sym (cond-true (o.valid (row o t work i)) (row o t work i) o.lowest (subst (Valid o) (sym (r.least.solves i h)) (c.answers.join_valid _ _))) in
-          least_same o n (round_of o (plan_of o n a s) s u) (row o t work) (side_of o t (At work)) same
-          (step_same o c n (round_of o (plan_of o n a s) s u) (steady o c (plan_of o n a s) u.paths (side_of o s u.before) (side_of o s u.end)) _ _ same) r.least
-
-      pub until_prepared : Placed n a (Untils u) to work (length s) → Prepared o n a (Untils u) to work s (source.Copied (At work)) k t
-      until_prepared p = record {
-        row_is = read_least;
-        count_is = r.count;
-        few = r.few;
-        writable = ready t (Untils u) (source.Copied (At work)) p len tt (behind (Untils u) p) tt;
-        spared = r.spared;
-      }
-
-      pub dual_prepared : Placed n a (Dual u) to work (length s) → Prepared o n a (Dual u) to work s (source.Copied (Not work)) k t
-      dual_prepared p = record {
-        row_is = (row o t work, r.least, λ i h. refl);
-        count_is = r.count;
-        few = r.few;
-        writable = ready t (Dual u) (source.Copied (Not work)) p len tt (behind (Dual u) p) tt;
-        spared = r.spared;
-      }
+module _ {V : Type 0} (o : Ops V) (c : Cutting o) (n a : ℕ) (s : List V) where
+  -- the row of a step is a row of values
+  row_valid : (step : Step) (x : Row V) → RowOf o (plan_of o n a s) s step x → (i : ℕ) → i < n → Valid o (x i)
+  row_valid (Mark m) x r i h = subst (Valid o) (sym (r i h)) (c.answers.read_valid _)
+  row_valid (Copied f) x r i h = subst (Valid o) (sym (r i h)) (side_valid o c.answers s f i)
+  row_valid (And f g) x r i h = subst (Valid o) (sym (r i h)) (c.answers.meet_valid _ _)
+  row_valid (Or f g) x r i h = subst (Valid o) (sym (r i h)) (c.answers.join_valid _ _)
+  row_valid (Ex place) x r i h = subst (Valid o) (sym (r i h)) (joined_valid o c.answers n _)
+  row_valid (Ax place) x r i h = subst (Valid o) (sym (r i h)) (c.answers.opposite_valid _)
+  row_valid (Untils u) x r i h = subst (Valid o) (sym (r.solves i h)) (c.answers.join_valid _ _)
+  row_valid (Dual u) x r i h = subst (Valid o) (sym (r.2 i h)) (c.answers.opposite_valid _)
 
   -- what holds of a row holds of one that agrees with it
-  row_same : (step : Step) (x y : Row V) → Same n x y → RowOf o (plan_of o n a s) s step x → RowOf o (plan_of o n a s) s step y
+  pub row_same : (step : Step) (x y : Row V) → Same n x y → RowOf o (plan_of o n a s) s step x → RowOf o (plan_of o n a s) s step y
   row_same (Mark m) x y e r = λ i h. sym (e i h) ∙ r i h
   row_same (Copied f) x y e r = λ i h. sym (e i h) ∙ r i h
   row_same (And f g) x y e r = λ i h. sym (e i h) ∙ r i h
@@ -160,7 +130,7 @@ module _ {V : Type 0} (o : Ops V) (c : Cutting o) (reads : (v : V) → o.opposit
   row_same (Ax place) x y e r = λ i h. sym (e i h) ∙ r i h
   row_same (Untils u) x y e r =
       least_same o n (round_of o (plan_of o n a s) s u) x y e
-      (step_same o c n (round_of o (plan_of o n a s) s u) (steady o c (plan_of o n a s) u.paths (side_of o s u.before) (side_of o s u.end)) x y e) r
+      (round_same o (plan_of o n a s) u.paths (side_of o s u.before) (side_of o s u.end) x y e) r
   row_same (Dual u) x y e r = (r.0, r.1, λ i h. sym (e i h) ∙ r.2 i h)
 
   -- where the rows that a step names are the values of formulas
@@ -172,13 +142,13 @@ module _ {V : Type 0} (o : Ops V) (c : Cutting o) (reads : (v : V) → o.opposit
     side_value Bottom v = λ i h. refl
     side_value Top v = λ i h. refl
     side_value (At x) v =
-        value_same o c p (of x) (row o s x) (side_of o s (At x))
+        value_same o p (of x) (row o s x) (side_of o s (At x))
         (λ i h. sym (cond-true (o.valid (row o s x i)) (row o s x i) o.lowest (value_valid o c p (of x) (row o s x) v i h))) v
     side_value (Not x) v = (row o s x, v, λ i h. refl)
 
-    row_value : (step : Step) (x : Row V) → RowOf o p s step x → Valued o p s of step → Value o p (formula_of of step) x
+    pub row_value : (step : Step) (x : Row V) → RowOf o p s step x → Valued o p s of step → Value o p (formula_of of step) x
     row_value (Mark m) x r v = r
-    row_value (Copied f) x r v = value_same o c p (side_formula of f) (side_of o s f) x (λ i h. sym (r i h)) (side_value f v)
+    row_value (Copied f) x r v = value_same o p (side_formula of f) (side_of o s f) x (λ i h. sym (r i h)) (side_value f v)
     row_value (And f g) x r v = (side_of o s f, side_of o s g, side_value f v.0, side_value g v.1, r)
     row_value (Or f g) x r v = (side_of o s f, side_of o s g, side_value f v.0, side_value g v.1, r)
     row_value (Ex place) x r v = (side_of o s (At place), side_value (At place) v, r)
@@ -190,10 +160,10 @@ module _ {V : Type 0} (o : Ops V) (c : Cutting o) (reads : (v : V) → o.opposit
         (x y : Row V) → Value o p (side_formula of u.before) x → Value o p (side_formula of u.end) y → Rounds o n (round o p u.paths x y) k
     until_takes u k r vf vg x y vx vy =
         rounds_same o n k (round_of o p s u) (round o p u.paths x y)
-        (other_rows o c p u.paths (side_of o s u.before) (side_of o s u.end) x y
+        (other_rows o p u.paths (side_of o s u.before) (side_of o s u.end) x y
         (value_once o c p (side_formula of u.before) _ x (side_value u.before vf) vx) (value_once o c p (side_formula of u.end) _ y (side_value u.end vg) vy)) r
 
-    count_takes : (step : Step) (k : ℕ) → CountOf o p s step k → Valued o p s of step → StepTakes o p of step k
+    pub count_takes : (step : Step) (k : ℕ) → CountOf o p s step k → Valued o p s of step → StepTakes o p of step k
     count_takes (Mark m) k r v = r
     count_takes (Copied f) k r v = r
     count_takes (And f g) k r v = r
@@ -203,15 +173,34 @@ module _ {V : Type 0} (o : Ops V) (c : Cutting o) (reads : (v : V) → o.opposit
     count_takes (Untils u) k r v = until_takes u k r v.0 v.1
     count_takes (Dual u) k r v = until_takes u k r v.0 v.1
 
-  pub settled : (step : Step) (from : Source) (k : ℕ) (t t2 : List V) → Prepared o n a step to work s from k t → Written o n from to t t2 → Settled o n a step to work s k t2
-  settled step from k t t2 q w =
-      let row_is : RowOf o (plan_of o n a s) s step (row o t2 to) = row_same step (source_of o n t from) (row o t2 to) (λ i h. sym (w.entries i h)) q.row_is in
+  -- a row that is settled behind what it was made of
+  pub settled_behind : (to : ℕ) (step : Step) (k : ℕ) (old values new : List V) → length values ≡ to → values ≡ take to old → s ≡ values → RowSettled o n a s step k (at o new) →
+      RowSettled o n a (take to old) step k (row o (values ++ new) to)
+  settled_behind to step k old values new size is from r =
+      let same : Same n (at o new) (row o (values ++ new) to) = λ i h.
+      sym (get_or-append_right values new to (to + i) o.lowest size (omega arith) ∙ ap (λ j. get_or new j o.lowest) (let e : to + i - to ≡ i = omega arith in e)) in
+      subst (λ l. RowSettled o n a l step k (row o (values ++ new) to)) (from ∙ is)
+      (record { row_is = row_same step (at o new) (row o (values ++ new) to) same r.row_is; count_is = r.count_is; few = r.few })
+
+  -- a step is settled in a stretch of two parts, the second of which begins at the work rows
+  pub settled : (to work : ℕ) (step : Step) → Placed n a step to work (length s) → (k : ℕ) (above below : List V) → length above ≡ work →
+      RowSettled o n a (take to (take work s)) step k (row o above to) → Kept o to n (take work s) above → KeptFrom o (n + n) (drop work s) below → Settled o n a step to work s k (above ++ below)
+  settled to work step p k above below size r ab be =
+      let agree : (i : ℕ) → i < to → get_or (take to (take work s)) i o.lowest ≡ get_or s i o.lowest = λ i h.
+      get_or-take to (take work s) i o.lowest h ∙ get_or-take work s i o.lowest (omega (arith, h, p.to_row)) in
+      let front : (i : ℕ) → i < work → get_or (above ++ below) i o.lowest ≡ get_or above i o.lowest = λ i h. get_or_append_left above below o.lowest i (omega (arith, h, size)) in
+      let same : Same n (row o above to) (row o (above ++ below) to) = λ i h. sym (front (to + i) (omega (arith, h, p.to_row))) in
+      let row_is = row_same step (row o above to) (row o (above ++ below) to) same (row_agrees o n a to s (take to (take work s)) agree p.entries step p.named (row o above to) r.row_is) in
+      let count_is = count_agrees o n a to s (take to (take work s)) agree p.entries step p.named k r.count_is in
       record {
         row_is = row_is;
-        values = λ i h. subst (Valid o) (sym (w.entries i h)) (source_valid t from i);
-        count_is = q.count_is;
-        few = q.few;
-        value_is = λ of v. row_value of step (row o t2 to) row_is v;
-        takes = λ of v. count_takes of step k q.count_is v;
-        spared = λ i off away. w.kept i off ∙ q.spared i off away;
+        values = row_valid step (row o (above ++ below) to) row_is;
+        count_is = count_is;
+        few = r.few;
+        value_is = λ of v. row_value of step (row o (above ++ below) to) row_is v;
+        takes = λ of v. count_takes of step k count_is v;
+        spared = λ i off away.
+            ⊎_elim (λ h. front i h ∙ ab i off ∙ get_or-take work s i o.lowest h)
+            (λ h. get_or-append_right above below work i o.lowest size (omega (arith, h)) ∙ be (i - work) (omega (arith, h)) ∙ get_or-drop work s (i - work) o.lowest
+            ∙ ap (λ j. get_or s j o.lowest) (let e : work + (i - work) ≡ i = omega (arith, h) in e)) away;
       }

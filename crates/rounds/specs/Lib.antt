@@ -1,3 +1,2 @@
-pub mod Sources
-pub mod Rests
+pub mod Rows
 pub mod Settled

@@ -5,10 +5,8 @@ use Rattle.ctl.specs.Operations.{Ops}
 use Rattle.ctl.specs.Formulas.{Formula}
 use Rattle.ctl.specs.Values.{Value}
 use Rattle.steps.specs.declared.Step.{Step}
-use Rattle.rounds.specs.declared.rows.Source.{Source}
 use Rattle.steps.specs.Stretch.{row, HoldsValues, plan_of, Off}
 use Rattle.steps.specs.Steps.{RowOf, CountOf, formula_of, Valued, StepTakes, laid}
-use Rattle.rounds.specs.Sources.{source_of, Writable}
 
 -- Whether a step can be settled: the logic has cuts, and all is laid in order in a stretch of `len` values.
 abbrev pub settleable : {V : Type 0} → Model V → ℕ → ℕ → Step → ℕ → ℕ → ℕ → Bool
@@ -25,12 +23,4 @@ pub record Settled {V : Type 0} (o : Ops V) (n a : ℕ) (step : Step) (to work :
   pub value_is : (of : ℕ → Formula) → Valued o (plan_of o n a s) s of step → Value o (plan_of o n a s) (formula_of of step) (row o t to)
   pub takes : (of : ℕ → Formula) → Valued o (plan_of o n a s) s of step → StepTakes o (plan_of o n a s) of step k
   -- all but its row and the work rows is as it was
-  pub spared : (i : ℕ) → Off to n i → Off work (n + n) i → slice_index_or t i o.lowest ≡ slice_index_or s i o.lowest
-
--- All but the last write: from t, the source gives the step's row.
-pub record Prepared {V : Type 0} (o : Ops V) (n a : ℕ) (step : Step) (to work : ℕ) (s : List V) (source : Source) (k : ℕ) (t : List V) : Type 0 where
-  pub row_is : RowOf o (plan_of o n a s) s step (source_of o n t source)
-  pub count_is : CountOf o (plan_of o n a s) s step k
-  pub few : k ≤ n
-  pub writable : Writable o n t source to
   pub spared : (i : ℕ) → Off to n i → Off work (n + n) i → slice_index_or t i o.lowest ≡ slice_index_or s i o.lowest

@@ -1,160 +1,140 @@
-// Rows of a stretch, written one from another.
-ghost use Rattle.std.specs.Prelude.{◌≡◌, ℕ, ◌+◌, ◌*◌, ◌<◌, ◌≤◌, Bool, true, false, length};
-ghost use Rattle.ctl.specs.Operations.{ops_at, Valid};
-ghost use Rattle.rounds.specs.declared.rows.Source.TheVariants.{Round};
-ghost use Rattle.steps.specs.Stretch.{HoldsValues, SameRows, Tells};
-ghost use Rattle.steps.specs.Steps.{side_of};
-ghost use Rattle.rounds.specs.Sources.{mark_at, ex_at, next_at, source_of, SideRows, NextRows, Readable, Writable, Written};
+// The entries of rows, and rows written entry by entry.
+ghost use Rattle.std.specs.Prelude.{◌≡◌, ℕ, ◌+◌, ◌*◌, ◌<◌, ◌≤◌, true, length, slice_index_or};
+ghost use Rattle.ctl.specs.Operations.{ops_at, Valid, as_read};
+ghost use Rattle.ctl.specs.Values.{ex, next};
+ghost use Rattle.ctl.specs.Computed.{at};
+ghost use Rattle.steps.specs.Stretch.{plan_of, Tells};
+ghost use Rattle.steps.specs.Steps.{side_of, round_of, side_by, step_by};
+ghost use Rattle.steps.specs.declared.Step.TheVariants.{Until as Settling};
+ghost use Rattle.rounds.specs.Rows.{AllValues, IsRow, Turned};
 
 use ctl::Paths;
 use scale::Logic;
 use steps::{Side, Until};
 
-// What a row is written from, entry by entry.
-#[derive(Clone, Copy)]
-pub(crate) enum Source {
-    // a mark, of so many
-    Mark(usize, usize),
-    Copied(Side),
-    And(Side, Side),
-    Or(Side, Side),
-    // EX of the row of values at a place, and the opposite of that
-    Ex(usize),
-    NotEx(usize),
-    // a round of an until, from the row of values at a place and that of its opposites
-    Round(Until, usize, usize),
+// What a step reads: the arrows and marks of so many stages, and behind them the rows of earlier lines.
+#[derive(Drop)]
+pub(crate) struct Given<'a, L: Logic> {
+    pub(crate) logic: &'a L,
+    pub(crate) values: &'a [L::Value],
+    pub(crate) stages: usize,
+    pub(crate) marks: usize,
+    ghost entries: { stages * stages + stages * marks ≤ length values.now },
 }
 
-// The entry of a side at stage i.
-fn side_at<L: Logic>(logic: &L, s: &[L::Value], n: usize, side: Side, i: usize) -> L::Value
-    requires stage { i < n }
-    requires rows { SideRows (λ x. x + n ≤ length s.now) side }
-    ensures { result ≡ side_of (ops_at L.Logic logic.now) s.now side i }
-{
-    match side {
-        Side::Bottom => logic.lowest(),
-        Side::Top => logic.highest(),
-        Side::At(place) => logic.reading(s[place + i]),
-        Side::Not(place) => logic.opposite(s[place + i]),
-    }
-}
-
-// The entry of mark m, of a marks, at stage i.
-fn mark_at<L: Logic>(logic: &L, s: &[L::Value], n: usize, m: usize, a: usize, i: usize) -> L::Value
-    requires stage { i < n }
-    requires mark { m < a }
-    requires inside { n * n + n * a ≤ length s.now }
-    ensures { result ≡ mark_at (ops_at L.Logic logic.now) n s.now m a i }
-{
-    logic.reading(s[n * n + (i * a + m)])
-}
-
-// EX at stage i of the row of values at `place`. Each arrow is read once; the running join is not read again.
-fn ex_at<L: Logic>(logic: &L, s: &[L::Value], n: usize, place: usize, i: usize) -> L::Value
-    requires arrows { i * n + n ≤ length s.now }
-    requires inside { place + n ≤ length s.now }
-    requires values { HoldsValues (ops_at L.Logic logic.now) n s.now place }
-    ensures { result ≡ ex_at (ops_at L.Logic logic.now) n s.now place i }
-{
-    let mut sum = logic.lowest();
-    for t in 0..n {
-        let arrow = logic.reading(s[i * n + t]);
-        let value = s[place + t];
-        let along = logic.meet_values(arrow, value);
-        sum = logic.join_values(sum, along);
-    }
-    sum
-}
-
-// What an until asks of the next stages of stage i: EX of the row at z, along all paths AX of it too.
-fn next_at<L: Logic>(
-    logic: &L,
-    s: &[L::Value],
-    n: usize,
-    paths: Paths,
-    z: usize,
-    turned: usize,
-    i: usize,
-) -> L::Value
-    requires arrows { i * n + n ≤ length s.now }
-    requires inside { (z + n ≤ length s.now) × (turned + n ≤ length s.now) }
-    requires values { NextRows (HoldsValues (ops_at L.Logic logic.now) n s.now) paths z turned }
-    ensures { result ≡ next_at (ops_at L.Logic logic.now) n s.now paths z turned i }
-{
-    match paths {
-        Paths::One => ex_at(logic, s, n, z, i),
-        Paths::All => {
-            let fails = ex_at(logic, s, n, turned, i);
-            let some = ex_at(logic, s, n, z, i);
-            logic.meet(logic.opposite(fails), some)
+impl<L: Logic> Given<'_, L> {
+    // The entry of a side at stage i.
+    pub(crate) fn side(&self, side: Side, i: usize) -> L::Value
+        requires stage { i < self.now.stages }
+        requires lies { side_by self.now.stages (length self.now.values.now) side ≡ true }
+        ensures { result ≡ side_of (ops_at L.Logic self.now.logic.now) self.now.values.now side i }
+    {
+        match side {
+            Side::Bottom => self.logic.lowest(),
+            Side::Top => self.logic.highest(),
+            Side::At(place) => self.logic.reading(self.values[place + i]),
+            Side::Not(place) => self.logic.opposite(self.values[place + i]),
         }
     }
-}
 
-// One round of an until at stage i, from the row of values at z.
-fn round_at<L: Logic>(
-    logic: &L,
-    s: &[L::Value],
-    n: usize,
-    until: Until,
-    z: usize,
-    turned: usize,
-    i: usize,
-) -> L::Value
-    requires stage { i < n }
-    requires reads { Readable (ops_at L.Logic logic.now) n s.now (Round until z turned) }
-    ensures { result ≡ source_of (ops_at L.Logic logic.now) n s.now (Round until z turned) i }
-{
-    let Until { paths, before, end } = until;
-    let next = next_at(logic, s, n, paths, z, turned, i);
-    let held = side_at(logic, s, n, before, i);
-    let reached = side_at(logic, s, n, end, i);
-    logic.join(reached, logic.meet(held, next))
-}
+    // The entry of mark m at stage i.
+    pub(crate) fn mark(&self, m: usize, i: usize) -> L::Value
+        requires stage { i < self.now.stages }
+        requires mark { m < self.now.marks }
+        ensures { let o = ops_at L.Logic self.now.logic.now in let p = plan_of o self.now.stages self.now.marks self.now.values.now in result ≡ as_read o (p.mark i m) }
+    {
+        let n = self.stages;
+        self.logic
+            .reading(self.values[n * n + (i * self.marks + m)])
+    }
 
-// The entry at stage i of a row that is written from a source.
-fn entry_at<L: Logic>(logic: &L, s: &[L::Value], n: usize, source: Source, i: usize) -> L::Value
-    requires stage { i < n }
-    requires reads { Readable (ops_at L.Logic logic.now) n s.now source }
-    ensures { result ≡ source_of (ops_at L.Logic logic.now) n s.now source i }
-{
-    match source {
-        Source::Mark(m, a) => mark_at(logic, s, n, m, a, i),
-        Source::Copied(f) => side_at(logic, s, n, f, i),
-        Source::And(f, g) => {
-            let left = side_at(logic, s, n, f, i);
-            let right = side_at(logic, s, n, g, i);
-            logic.meet(left, right)
+    // The opposite of a row's entry at stage i.
+    pub(crate) fn opposite(&self, row: &[L::Value], i: usize) -> L::Value
+        requires { i < length row.now }
+        ensures { let o = ops_at L.Logic self.now.logic.now in result ≡ o.opposite (at o row.now i) }
+    {
+        self.logic.opposite(row[i])
+    }
+
+    // The entries of two sides at stage i.
+    pub(crate) fn pair(&self, f: Side, g: Side, i: usize) -> (L::Value, L::Value)
+        requires stage { i < self.now.stages }
+        requires first { side_by self.now.stages (length self.now.values.now) f ≡ true }
+        requires second { side_by self.now.stages (length self.now.values.now) g ≡ true }
+        ensures first { result.0 ≡ side_of (ops_at L.Logic self.now.logic.now) self.now.values.now f i }
+        ensures second { result.1 ≡ side_of (ops_at L.Logic self.now.logic.now) self.now.values.now g i }
+    {
+        let left = self.side(f, i);
+        let right = self.side(g, i);
+        (left, right)
+    }
+
+    // EX of a row at stage i. Each arrow is read once; the running join is not read again.
+    pub(crate) fn ex(&self, row: &[L::Value], i: usize) -> L::Value
+        requires stage { i < self.now.stages }
+        requires row { IsRow (ops_at L.Logic self.now.logic.now) self.now.stages row.now }
+        ensures { let o = ops_at L.Logic self.now.logic.now in let p = plan_of o self.now.stages self.now.marks self.now.values.now in result ≡ ex o p (at o row.now) i }
+    {
+        let from = i * self.stages;
+        let arrows = &self.values[from..from + self.stages];
+        let mut sum = self.logic.lowest();
+        for (arrow, value) in arrows.iter().zip(row) {
+            let along = self.logic.meet_values(self.logic.reading(*arrow), *value);
+            sum = self.logic.join_values(sum, along);
         }
-        Source::Or(f, g) => {
-            let left = side_at(logic, s, n, f, i);
-            let right = side_at(logic, s, n, g, i);
-            logic.join(left, right)
+        sum
+    }
+
+    // What an until asks of the next stages of stage i: EX of a row, and along all paths AX of it too, which is made of the row's opposites.
+    fn next(&self, paths: Paths, row: &[L::Value], turned: &[L::Value], i: usize) -> L::Value
+        requires stage { i < self.now.stages }
+        requires row { IsRow (ops_at L.Logic self.now.logic.now) self.now.stages row.now }
+        requires turned { Turned (ops_at L.Logic self.now.logic.now) self.now.stages paths row.now turned.now }
+        ensures { let o = ops_at L.Logic self.now.logic.now in let p = plan_of o self.now.stages self.now.marks self.now.values.now in result ≡ next o p paths (at o row.now) i }
+    {
+        match paths {
+            Paths::One => self.ex(row, i),
+            Paths::All => {
+                let fails = self.ex(turned, i);
+                let some = self.ex(row, i);
+                self.logic.meet(self.logic.opposite(fails), some)
+            }
         }
-        Source::Ex(place) => ex_at(logic, s, n, place, i),
-        Source::NotEx(place) => logic.opposite(ex_at(logic, s, n, place, i)),
-        Source::Round(until, z, turned) => round_at(logic, s, n, until, z, turned, i),
+    }
+
+    // One round of an until at stage i, from a row of values.
+    pub(crate) fn round(
+        &self,
+        until: Until,
+        row: &[L::Value],
+        turned: &[L::Value],
+        i: usize,
+    ) -> L::Value
+        requires stage { i < self.now.stages }
+        requires lies { step_by self.now.stages self.now.marks (length self.now.values.now) (Settling until) ≡ true }
+        requires row { IsRow (ops_at L.Logic self.now.logic.now) self.now.stages row.now }
+        requires turned { Turned (ops_at L.Logic self.now.logic.now) self.now.stages until.paths row.now turned.now }
+        ensures { let o = ops_at L.Logic self.now.logic.now in let p = plan_of o self.now.stages self.now.marks self.now.values.now in result ≡ round_of o p self.now.values.now until (at o row.now) i }
+    {
+        let Until { paths, before, end } = until;
+        let next = self.next(paths, row, turned, i);
+        let held = self.side(before, i);
+        let reached = self.side(end, i);
+        self.logic.join(reached, self.logic.meet(held, next))
     }
 }
 
-// Writes the row at `place` from a source that does not read it.
-pub(crate) fn write_row<L: Logic>(
-    logic: &L,
-    s: &mut [L::Value],
-    n: usize,
-    source: Source,
-    place: usize,
-)
-    requires { Writable (ops_at L.Logic logic.now) n s.old source place }
-    ensures { Written (ops_at L.Logic logic.now) n source place s.old s.new }
+// Writes a row, entry by entry.
+pub(crate) fn write<V: Copy, F: Fn(usize) -> V>(row: &mut [V], entry: F)
+    requires { (i : ℕ) → i < length row.old → F.pre entry i }
+    ensures { (i : ℕ) (d : V) → i < length row.old → F.post entry i (slice_index_or row.new i d) }
 {
-    for i in 0..n {
-        let v = entry_at(logic, s, n, source, i);
-        s[place + i] = v;
+    for (i, value) in row.iter_mut().enumerate() {
+        *value = entry(i);
     }
 }
 
-// Whether two values are equal: each is at or below the other.
+// Whether two values are equal: each is at or below the other. A value is `Copy` alone, so there is no `==`.
 fn equal<L: Logic>(logic: &L, u: L::Value, v: L::Value) -> bool
     requires first { Valid (ops_at L.Logic logic.now) u }
     requires second { Valid (ops_at L.Logic logic.now) v }
@@ -163,15 +143,15 @@ fn equal<L: Logic>(logic: &L, u: L::Value, v: L::Value) -> bool
     logic.leq_values(u, v) && logic.leq_values(v, u)
 }
 
-// Whether two rows of values are the same.
-pub(crate) fn same_rows<L: Logic>(logic: &L, s: &[L::Value], n: usize, x: usize, y: usize) -> bool
-    requires inside { (x + n ≤ length s.now) × (y + n ≤ length s.now) }
-    requires first { HoldsValues (ops_at L.Logic logic.now) n s.now x }
-    requires second { HoldsValues (ops_at L.Logic logic.now) n s.now y }
-    ensures { Tells result (SameRows (ops_at L.Logic logic.now) n s.now x y) }
+// Whether two rows are the same.
+pub(crate) fn same<L: Logic>(logic: &L, x: &[L::Value], y: &[L::Value]) -> bool
+    requires sizes { length x.now ≡ length y.now }
+    requires first { AllValues (ops_at L.Logic logic.now) x.now }
+    requires second { AllValues (ops_at L.Logic logic.now) y.now }
+    ensures { Tells result (x.now ≡ y.now) }
 {
-    for i in 0..n {
-        if !equal(logic, s[x + i], s[y + i]) {
+    for (u, v) in x.iter().zip(y) {
+        if !equal(logic, *u, *v) {
             return false;
         }
     }

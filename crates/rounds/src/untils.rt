@@ -1,76 +1,74 @@
 // An until, settled by rounds in the two work rows.
 ghost use Rattle.std.specs.Prelude.{◌≡◌, true, length};
+ghost use Rattle.ctl.specs.Computed.{at};
 ghost use Rattle.ctl.specs.Operations.{ops_at, Small};
-ghost use Rattle.steps.specs.declared.Side.TheVariants.{Not as Opposite};
+ghost use Rattle.ctl.specs.Values.{Same};
 ghost use Rattle.steps.specs.declared.Step.TheVariants.{Until as Settling};
-ghost use Rattle.rounds.specs.declared.rows.Source.TheVariants.{Copied};
-ghost use Rattle.steps.specs.Stretch.{HoldsValues};
-ghost use Rattle.steps.specs.Steps.{laid};
-ghost use Rattle.rounds.specs.Sources.{Writable};
-ghost use Rattle.rounds.specs.Rests.{Rested, Rounded, Turned};
+ghost use Rattle.steps.specs.Stretch.{plan_of};
+ghost use Rattle.steps.specs.Steps.{round_of, step_by};
+ghost use Rattle.rounds.specs.Rows.{IsRow, Turned, Rested};
 
-use crate::rows::{Source, same_rows, write_row};
+use crate::rows::{Given, same, write};
 use ctl::Paths;
 use scale::Logic;
-use steps::{Side, Until};
+use steps::Until;
 
-// Along all paths, AX is asked too: writes the opposites of the row at z, of which it is made, to the row at `turned`.
-fn turn_row<L: Logic>(
-    logic: &L,
-    s: &mut [L::Value],
-    n: usize,
-    paths: Paths,
-    z: usize,
-    turned: usize,
-)
-    requires { Writable (ops_at L.Logic logic.now) n s.old (Copied (Opposite z)) turned }
-    ensures { Turned (ops_at L.Logic logic.now) n paths z turned s.old s.new }
-{
-    match paths {
-        Paths::One => {}
-        Paths::All => write_row(logic, s, n, Source::Copied(Side::Not(z)), turned),
-    }
-}
-
-// One round: writes the row behind the one at z from that row of values. The row at `turned` is free.
-fn run_round<L: Logic>(
-    logic: &L,
-    s: &mut [L::Value],
-    n: usize,
-    until: Until,
-    z: usize,
-    turned: usize,
-)
-    requires placed { laid n 0 (Settling until) turned z (length s.old) ≡ true }
-    requires values { HoldsValues (ops_at L.Logic logic.now) n s.old z }
-    ensures { Rounded (ops_at L.Logic logic.now) n until z turned s.old s.new }
-{
-    let paths = until.paths;
-    turn_row(logic, s, n, paths, z, turned);
-    write_row(logic, s, n, Source::Round(until, z, turned), z + n);
-}
-
-// Settles an until: leaves its row at z, and says how many rounds changed something. The row at `turned` is free.
-pub(crate) fn settle_until<L: Logic>(
-    logic: &L,
-    s: &mut [L::Value],
-    n: usize,
-    until: Until,
-    z: usize,
-    turned: usize,
-) -> usize
-    requires small { Small (L.Scale.model logic.now) }
-    requires placed { laid n 0 (Settling until) turned z (length s.old) ≡ true }
-    ensures { Rested (ops_at L.Logic logic.now) n until z turned s.old result s.new }
-{
-    write_row(logic, s, n, Source::Copied(Side::Bottom), z);
-    let mut count: usize = 0;
-    'rounds: loop {
-        run_round(logic, s, n, until, z, turned);
-        if same_rows(logic, s, n, z, z + n) {
-            break 'rounds count;
+impl<L: Logic> Given<'_, L> {
+    // Along all paths, AX is asked too: writes the opposites of a row, of which it is made.
+    fn turn(&self, paths: Paths, row: &[L::Value], turned: &mut [L::Value])
+        requires row { IsRow (ops_at L.Logic self.now.logic.now) self.now.stages row.now }
+        requires size { length turned.old ≡ self.now.stages }
+        ensures { Turned (ops_at L.Logic self.now.logic.now) self.now.stages paths row.now turned.new }
+    {
+        match paths {
+            Paths::One => {}
+            Paths::All => write(turned, |i| self.opposite(row, i)),
         }
-        write_row(logic, s, n, Source::Copied(Side::At(z + n)), z);
-        count += 1;
+    }
+
+    // One round: writes the next row from a row of values.
+    fn run_round(
+        &self,
+        until: Until,
+        row: &[L::Value],
+        turned: &mut [L::Value],
+        next: &mut [L::Value],
+    )
+        requires lies { step_by self.now.stages self.now.marks (length self.now.values.now) (Settling until) ≡ true }
+        requires row { IsRow (ops_at L.Logic self.now.logic.now) self.now.stages row.now }
+        requires turned_size { length turned.old ≡ self.now.stages }
+        requires next_size { length next.old ≡ self.now.stages }
+        ensures { let o = ops_at L.Logic self.now.logic.now in let p = plan_of o self.now.stages self.now.marks self.now.values.now in Same self.now.stages (at o next.new) (round_of o p self.now.values.now until (at o row.now)) }
+    {
+        self.turn(until.paths, row, turned);
+        let turned = &*turned;
+        write(next, |i| self.round(until, row, turned, i));
+    }
+
+    // Settles an until: leaves its row in `row`, and says how many rounds changed something. The two other rows are free.
+    pub(crate) fn settle_until(
+        &self,
+        until: Until,
+        row: &mut [L::Value],
+        turned: &mut [L::Value],
+        next: &mut [L::Value],
+    ) -> usize
+        requires small { Small (L.Scale.model self.now.logic.now) }
+        requires lies { step_by self.now.stages self.now.marks (length self.now.values.now) (Settling until) ≡ true }
+        requires row_size { length row.old ≡ self.now.stages }
+        requires turned_size { length turned.old ≡ self.now.stages }
+        requires next_size { length next.old ≡ self.now.stages }
+        ensures { Rested (ops_at L.Logic self.now.logic.now) self.now.stages self.now.marks self.now.values.now until result row.new }
+    {
+        write(row, |_i| self.logic.lowest());
+        let mut count: usize = 0;
+        'rounds: loop {
+            self.run_round(until, row, turned, next);
+            if same(self.logic, row, next) {
+                break 'rounds count;
+            }
+            row.copy_from_slice(next);
+            count += 1;
+        }
     }
 }

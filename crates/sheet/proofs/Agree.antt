@@ -10,6 +10,7 @@ use Rattle.lines.specs.Word.{word_of, FitsAt}
 use Rattle.formula.specs.Grammar.{Tree}
 use Rattle.ctl.specs.Operations.{Valid}
 use Rattle.ctl.specs.Values.{Row, Value}
+use Rattle.ctl.proofs.Alike.{value_same}
 use Rattle.sheet.specs.declared.state.Refusal.{Refusal}
 use Rattle.sheet.specs.declared.state.Refusal.TheVariants.{Line as BadLine}
 use Rattle.sheet.specs.Layout.{room, arrow_place, mark_place, answer_row}
@@ -17,7 +18,7 @@ use Rattle.sheet.specs.Lines.{formula, tree_lines, Fitting, Says, GreatestCount}
 use Rattle.sheet.specs.Sheet.{LogicOf, ops, Phase, drafting, settled, Sheet, Call, arrow, mark, line, text, settle, read_at, reopen, Reply, done, rounds, value, refused, Permits, Verdict, refuse, accept, needs, accepts, lent, Judged, plan_in, answers_in, Settles, wipes, left, Ends}
 use Rattle.sheet.specs.Account.{Event, Account, plan, Judges, taken, onward}
 use Rattle.sheet.specs.Runs.{lent_to, back, Moves}
-use Rattle.sheet.proofs.Alike.{Agreeing, value_alike, value_same}
+use Rattle.sheet.proofs.Alike.{Agreeing, value_alike}
 use Rattle.sheet.proofs.Formulas.{says_once, formula_bounded, count_alike}
 use Rattle.sheet.proofs.Memory.{set_front, sets_front, sets_off, sets_at, cleared_same, back_before}
 use Rattle.sheet.proofs.Places.{arrow_within, mark_within, entries_first, answer_within, entries_within, entry_elsewhere, arrow_row, arrow_column, mark_rest}
@@ -329,7 +330,7 @@ module _ {V : Type 0} (l : LogicOf V) (x : Account V) (ph : Phase) (s : List V) 
             arrows = λ i j hi hj. kept (arrow_place n i j) (omega (arith, arrow_within n i j hi hj, entries_first n a)) ∙ ok.arrows i j hi hj;
             marked = λ i k hi hk. kept (mark_place n a i k) (mark_within n a i k hi hk) ∙ ok.marked i k hi hk;
             answers = λ f k h.
-                value_same (ops l) n x.arrows x.marked (formula x.lines k) (answers_in l.model n a u k) (answers_in l.model n a whole k) (λ i hi. row k i h hi)
+                value_same (ops l) (plan x) (formula x.lines k) (answers_in l.model n a u k) (answers_in l.model n a whole k) (λ i hi. row k i h hi)
                 (value_alike (ops l) n a _ x.arrows _ x.marked (agreeing roomy) (formula x.lines k) (formula_bounded a x.lines ok.fit k) (answers_in l.model n a u k)
                 (subst (λ r. Value (ops l) (plan_in l.model n a (take e.values_lent s)) (formula r k) (answers_in l.model n a u k)) said (st.values k h)));
             valid = λ f k i h hi. subst (Valid (ops l)) (row k i h hi) (st.valid k i h hi);

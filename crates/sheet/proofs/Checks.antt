@@ -7,7 +7,7 @@ use Rattle.sheet.specs.declared.state.Refusal.TheVariants.{Value as NoValue, Ful
 use Rattle.lines.specs.Word.{WellFormed}
 use Rattle.sheet.specs.Layout.{most_lines}
 use Rattle.sheet.specs.Sheet.{LogicOf, Sheet, Call, done, entry_reply, Permits, Verdict, refuse, accept, needs, accepts, lent, Does, wipes, left, Step}
-use Rattle.sheet.specs.Verdicts.{arrow_placed, mark_placed, answer_placed}
+use Rattle.sheet.specs.Verdicts.{arrow_placed, mark_placed}
 use Rattle.sheet.proofs.Agree.{passed}
 use Rattle.sheet.proofs.Calls.{JudgedOn, refuses, answers, does}
 use Rattle.sheet.proofs.Lent.{stopped, let_through, refused_first, refused_second, value_found, value_missed}
@@ -22,12 +22,6 @@ before_arrow n s t = record { stops = λ rest r p. refused_first (λ _. rest) p;
 
 pub before_mark : (n a s k : ℕ) → Before (mark_placed n a s k)
 before_mark n a s k = record {
-  stops = λ rest r p. refused_second (λ _ _. rest) p;
-  goes = λ rest v p q. let x = passed p in inr (x.0, inr ((passed x.1).0, q));
-}
-
-pub before_answer : (n count k s : ℕ) → Before (answer_placed n count k s)
-before_answer n count k s = record {
   stops = λ rest r p. refused_second (λ _ _. rest) p;
   goes = λ rest v p q. let x = passed p in inr (x.0, inr ((passed x.1).0, q));
 }

@@ -14,6 +14,7 @@ use Rattle.ctl.specs.Operations.{Ops, Valid}
 use Rattle.ctl.specs.Formulas.{Plan, Formula, F, T, mark, not, EX, AX, and, or, until as untils}
 use Rattle.ctl.specs.Values.{Value, Takes}
 use Rattle.ctl.specs.Theorems.{Meaning}
+use Rattle.ctl.proofs.Alike.{value_same}
 use Rattle.steps.specs.Stretch.{row}
 use Rattle.steps.specs.Steps.{formula_of, Valued, StepTakes, step_by, ends_by, laid}
 use Rattle.rounds.specs.Settled as rounds
@@ -21,7 +22,7 @@ use Rattle.sheet.specs.Layout.{room, answer_row, work_rows}
 use Rattle.sheet.specs.Lines.{line_formula, one_formula, two_formula, formulas, formula, one_until, two_until, line_until, until_in, Fitting}
 use Rattle.sheet.specs.Sheet.{LogicOf, ops, plan_in, answers_in}
 use Rattle.sheet.specs.Filling.{one_step, two_step, step_of, Filled}
-use Rattle.sheet.proofs.Alike.{Agreeing, turned, with_entries, value_alike, value_same, takes_alike}
+use Rattle.sheet.proofs.Alike.{Agreeing, turned, with_entries, value_alike, takes_alike}
 use Rattle.sheet.proofs.Formulas.{formula_bounded, until_bounded}
 use Rattle.sheet.proofs.Places.{arrow_within, mark_within, entries_first, rows_order, row_after, work_room, entry_elsewhere}
 
@@ -272,7 +273,7 @@ module _ {V : Type 0} (lo : LogicOf V) (m : Meaning (ops lo)) (n a : ℕ) (ls : 
       ⊎_elim
       (λ z.
       let e = m.exists (plan_in lo.model n a s) (formula ls k) in
-      value_same (ops lo) n _ _ (formula ls k) e.0 (answers_in lo.model n a t' k) (λ i l. absurd (omega arith)) e.1)
+      value_same (ops lo) (plan_in lo.model n a s) (formula ls k) e.0 (answers_in lo.model n a t' k) (λ i l. absurd (omega arith)) e.1)
       (λ z.
       let pos : 1 ≤ n = positive z in
       value_alike (ops lo) n a _ _ _ _ standing (formula ls k) (formula_bounded a ls fit k) (answers_in lo.model n a t' k)
@@ -298,7 +299,7 @@ module _ {V : Type 0} (lo : LogicOf V) (m : Meaning (ops lo)) (n a : ℕ) (ls : 
     values = λ i p.
         ⊎_elim
         (λ e. subst (λ x. Value (ops lo) (plan_in lo.model n a s) (formula ls x) (answers_in lo.model n a t' x)) (sym e) here)
-        (λ e. value_same (ops lo) n _ _ (formula ls i) (answers_in lo.model n a t i) (answers_in lo.model n a t' i) (λ j q. before i j (omega arith) q) (was.values i (omega arith)))
+        (λ e. value_same (ops lo) (plan_in lo.model n a s) (formula ls i) (answers_in lo.model n a t i) (answers_in lo.model n a t' i) (λ j q. before i j (omega arith) q) (was.values i (omega arith)))
         (cases_eq i k);
     valid = λ i j p q.
         ⊎_elim

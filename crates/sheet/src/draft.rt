@@ -126,9 +126,8 @@ impl Draft {
         ensures law { Tells (logic_at L.Logic logic.now) (draft_on self stretch.old words.now) Settle (settle_reply result) }
     {
         let size = self.size;
-        if let Err(why) = size.check_settle(logic, stretch.len(), words) {
-            return Err((self, why));
-        }
+        size.check_settle(logic, stretch.len(), words)
+            .map_err(|why| (self, why))?;
         let rounds = size.settle_lines(logic, stretch, words);
         Ok((Settled { size }, rounds))
     }

@@ -1,9 +1,7 @@
 -- What the test of the places tells.
 use Rattle.std.proofs.Common.{◌≡◌, ℕ, ◌+◌, ◌*◌, ◌≤◌, true, ◌&&◌, leb, mul-add, arith}
-use Rattle.std.proofs.lemmas.Bool.{and_from, and_parts, le-leb, leb-true}
-use Rattle.steps.specs.declared.Until.{Until}
+use Rattle.std.proofs.lemmas.Bool.{and_parts, leb-true}
 use Rattle.steps.specs.declared.Step.{Step}
-use Rattle.steps.specs.declared.Step.TheVariants.{Until as Untils}
 use Rattle.steps.specs.Steps.{ends_by, step_by, laid}
 
 pub record Placed (n a : ℕ) (step : Step) (to work len : ℕ) : Type 0 where
@@ -23,8 +21,3 @@ placed n a step to work len e =
       to_row = leb-true _ _ back.0;
       work_rows = leb-true _ _ back.1;
     }
-
--- an until asks for no marks
-pub until_laid : (n a : ℕ) (step : Step) (u : Until) (to work len : ℕ) → Placed n a step to work len → step_by n 0 to (Untils u) ≡ true → laid n 0 (Untils u) to work len ≡ true
-until_laid n a step u to work len p named =
-    and_from _ _ (and_from _ _ (le-leb _ _ (omega (arith, p.entries, mul-add n n 0))) named) (and_from _ _ (le-leb _ _ p.to_row) (le-leb _ _ p.work_rows))

@@ -2,7 +2,7 @@
 use Rattle.std.specs.Prelude.{◌≡◌, ℕ, ◌+◌, ◌*◌, ◌<◌, ◌≤◌, Bool, true, false, ◌⊎◌, List, slice_index_or}
 use Rattle.ctl.specs.Operations.{Ops, Valid}
 use Rattle.ctl.specs.Formulas.{Plan}
-use Rattle.ctl.specs.Values.{Row, Same}
+use Rattle.ctl.specs.Values.{Row}
 
 -- The row that begins at a place.
 abbrev pub row : {V : Type 0} → Ops V → List V → ℕ → Row V
@@ -11,10 +11,6 @@ row o s place t = slice_index_or s (place + t) o.lowest
 -- Its n entries are values.
 abbrev pub HoldsValues : {V : Type 0} → Ops V → ℕ → List V → ℕ → Type 0
 HoldsValues o n s place = (t : ℕ) → t < n → Valid o (row o s place t)
-
--- The n entries of two rows are the same.
-abbrev pub SameRows : {V : Type 0} → Ops V → ℕ → List V → ℕ → ℕ → Type 0
-SameRows o n s x y = Same n (row o s x) (row o s y)
 
 -- The plan of n stages and a marks that the stretch begins with.
 abbrev pub plan_of : {V : Type 0} → Ops V → ℕ → ℕ → List V → Plan V
