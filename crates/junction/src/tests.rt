@@ -221,13 +221,14 @@ fn two_stages(rt: HostRuntime) -> Result<(), Fail> {
     let c = Chain::new(3)?;
     let mut stretch = [0u8; 138];
     let mut words = [0u32; 64];
-    let desk = &mut lent(&c, &mut stretch, &mut words);
-    match settled(desk, 2, &PLAN) {
+    match settled(&mut lent(&c, &mut stretch, &mut words), 2, &PLAN) {
         Ok((sheet, count)) => {
             assert_eq!(rt; count, 2);
-            assert_eq!(rt; readings_right(desk, &sheet, &ASKS), 8);
-            desk.stretch[8] = 3;
-            assert_eq!(rt; reading(desk, &sheet, 1, 0), 0);
+            let desk = lent(&c, &mut stretch, &mut words);
+            assert_eq!(rt; readings_right(&desk, &sheet, &ASKS), 8);
+            stretch[8] = 3;
+            let desk = lent(&c, &mut stretch, &mut words);
+            assert_eq!(rt; reading(&desk, &sheet, 1, 0), 0);
             Ok(())
         }
         Err(_) => {
@@ -243,20 +244,19 @@ fn damaged_word(rt: HostRuntime) -> Result<(), Fail> {
     let c = Chain::new(3)?;
     let mut stretch = [0u8; 138];
     let mut words = [0u32; 64];
-    let desk = &mut lent(&c, &mut stretch, &mut words);
-    let Ok((sheet, _)) = settled(desk, 2, &PLAN) else {
+    let Ok((sheet, _)) = settled(&mut lent(&c, &mut stretch, &mut words), 2, &PLAN) else {
         assert!(rt; false);
         return Ok(());
     };
-    let draft = desk.reopen(sheet);
-    desk.words[1] = 0x40900100;
-    let Err((draft, why)) = desk.settle(draft) else {
+    let draft = lent(&c, &mut stretch, &mut words).reopen(sheet);
+    words[1] = 0x40900100;
+    let Err((draft, why)) = lent(&c, &mut stretch, &mut words).settle(draft) else {
         assert!(rt; false);
         return Ok(());
     };
     assert_eq!(rt; why.number(), 7);
-    desk.words[1] = 0x40700000;
-    assert!(rt; desk.settle(draft).is_ok());
+    words[1] = 0x40700000;
+    assert!(rt; lent(&c, &mut stretch, &mut words).settle(draft).is_ok());
     Ok(())
 }
 
