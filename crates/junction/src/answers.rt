@@ -1,5 +1,7 @@
 // What is printed of an answer.
-use crate::plan::VALUE_NAMES;
+ghost use Rattle.std.specs.Prelude.{◌≡◌, Some};
+ghost use Rattle.junction.specs.Answers.{value_name, answer_text, entered_answer, reading_answer};
+
 use scale::Logic;
 use sheet::Refusal;
 use std::fmt;
@@ -15,14 +17,31 @@ pub enum Answer {
     Refused(Refusal),
 }
 
+// The name of one of the six values.
+fn value_name(number: u32) -> &'static str
+    ensures { result.now ≡ value_name number }
+{
+    match number {
+        0 => "F",
+        1 => "N",
+        2 => "DK",
+        3 => "DC",
+        4 => "S",
+        5 => "T",
+        _ => "",
+    }
+}
+
 impl fmt::Display for Answer {
+    ghost output = { λ a. Some (answer_text a) };
+
     fn fmt<W: fmt::Write>(&self, f: &mut fmt::Formatter<W>) -> fmt::Result {
         match *self {
             Answer::Opened => write!(f, "opened"),
             Answer::Entered => write!(f, "entered"),
             Answer::Rounds(count) => write!(f, "rounds {count}"),
             Answer::Value(number) => {
-                let name = *VALUE_NAMES.get(number as usize).unwrap_or(&"");
+                let name = value_name(number);
                 write!(f, "{number} {name}")
             }
             Answer::Refused(why) => write!(f, "refusal {why}"),
@@ -32,7 +51,9 @@ impl fmt::Display for Answer {
 
 impl Answer {
     // What a reading answers; the value goes by its number.
-    pub(crate) fn reading<L: Logic>(logic: &L, read: Result<L::Value, Refusal>) -> Answer {
+    pub(crate) fn reading<L: Logic>(logic: &L, read: Result<L::Value, Refusal>) -> Answer
+        ensures { result ≡ reading_answer (L.Scale.model logic.now) read }
+    {
         match read {
             Ok(value) => Answer::Value(logic.number(value).unwrap_or(0)),
             Err(why) => Answer::Refused(why),
@@ -41,6 +62,8 @@ impl Answer {
 }
 
 impl From<Result<(), Refusal>> for Answer {
+    ghost from_gives = { λ r a. a ≡ entered_answer r };
+
     fn from(entered: Result<(), Refusal>) -> Answer {
         match entered {
             Ok(()) => Answer::Entered,

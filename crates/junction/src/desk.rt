@@ -19,14 +19,18 @@ pub struct Desk<'a, L: Logic> {
 impl<'a, L: Logic> Desk<'a, L> {
     // Opens a sheet.
     pub fn open(&mut self, stages: u8, marks: u8) -> Result<Draft, Refusal>
-        ensures { Opens (logic_at L.Logic self.old.logic.now) stages marks self.old.stretch.now self.old.words.now result self.new.stretch.now self.new.words.now }
+        ensures opens { Opens (logic_at L.Logic self.old.logic.now) stages marks self.old.stretch.now self.old.words.now result self.new.stretch.now self.new.words.now }
+        ensures logic { self.new.logic.now ≡ self.old.logic.now }
+        ensures names { self.new.names.now ≡ self.old.names.now }
     {
         Draft::open(self.logic, self.stretch, self.words, stages, marks)
     }
 
     // Makes an entry.
     pub fn enter(&mut self, draft: &mut Draft, entry: Entry) -> Result<(), Refusal>
-        ensures { Step (logic_at L.Logic self.old.logic.now) (draft_on draft.old self.old.stretch.now self.old.words.now) (entry_call self.old.names.now entry) (entry_reply result) (draft_on draft.new self.new.stretch.now self.new.words.now) }
+        ensures step { Step (logic_at L.Logic self.old.logic.now) (draft_on draft.old self.old.stretch.now self.old.words.now) (entry_call self.old.names.now entry) (entry_reply result) (draft_on draft.new self.new.stretch.now self.new.words.now) }
+        ensures logic { self.new.logic.now ≡ self.old.logic.now }
+        ensures names { self.new.names.now ≡ self.old.names.now }
     {
         let logic = self.logic;
         let names = self.names.as_bytes();
@@ -44,7 +48,9 @@ impl<'a, L: Logic> Desk<'a, L> {
 
     // Settles a draft, and answers the rounds too. Refused, it hands the draft back.
     pub fn settle(&mut self, draft: Draft) -> Result<(Settled, u8), (Draft, Refusal)>
-        ensures { Step (logic_at L.Logic self.old.logic.now) (draft_on draft self.old.stretch.now self.old.words.now) Settle (settle_reply result) (settle_sheet result self.new.stretch.now self.new.words.now) }
+        ensures step { Step (logic_at L.Logic self.old.logic.now) (draft_on draft self.old.stretch.now self.old.words.now) Settle (settle_reply result) (settle_sheet result self.new.stretch.now self.new.words.now) }
+        ensures logic { self.new.logic.now ≡ self.old.logic.now }
+        ensures names { self.new.names.now ≡ self.old.names.now }
     {
         let logic = self.logic;
         let stretch = &mut *self.stretch;

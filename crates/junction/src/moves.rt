@@ -26,8 +26,5 @@ pub fn entered_twice<L: Logic>(
 ) -> Result<(Settled, u8), Refusal> {
     desk.enter(&mut draft, Entry::Arrow(0, 3, earlier))?;
     desk.enter(&mut draft, Entry::Arrow(0, 3, later))?;
-    match desk.settle(draft) {
-        Ok(done) => Ok(done),
-        Err((_, why)) => Err(why),
-    }
+    desk.settle(draft).map_err(|(_, why)| why)
 }

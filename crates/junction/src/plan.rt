@@ -9,8 +9,6 @@ pub const SIX: [u32; 6] = [
     0x60050001, 0x60040003, 0x60020007, 0x6003000B, 0x6001001F, 0x6000003F,
 ];
 
-pub const VALUE_NAMES: [&str; 6] = ["F", "N", "DK", "DC", "S", "T"];
-
 pub const STAGES: u8 = 5;
 
 pub const MARKS: u8 = 3;

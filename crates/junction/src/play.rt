@@ -18,6 +18,7 @@ fn print_enter<L: Logic>(
     println!(rt; "{entry}: {answer}")
 }
 
+// Entries, formulas and lines stand in lists of three kinds; their functions have a loop alike, and no more.
 fn enter_entries<L: Logic>(
     rt: &HostRuntime,
     draft: &mut Draft,

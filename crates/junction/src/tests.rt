@@ -41,10 +41,7 @@ fn settled<L: Logic>(
     for entry in entries {
         desk.enter(&mut draft, *entry)?;
     }
-    match desk.settle(draft) {
-        Ok(done) => Ok(done),
-        Err((_, why)) => Err(why),
-    }
+    desk.settle(draft).map_err(|(_, why)| why)
 }
 
 // The number of the refusal to open, or 0.
