@@ -39,24 +39,28 @@ pub one_place : {ns s : List ℕ} {i j : ℕ} → Listed ns s i → Listed ns s 
 one_place {ns} {s} {i} {j} h g =
     elim (cases_order i j) [ inl e ↦ e | inr o ↦ elim o [ inl l ↦ absurd (g.first i l h.here) | inr l ↦ absurd (h.first j l g.here) ] ]
 
--- a name at the place of its mark
-abbrev pub Named : List ℕ → ℕ × List ℕ → Type 0
-Named bs p = Name p.1 × Listed bs p.1 p.0
+-- a name at the place of its mark, of so many marks
+abbrev pub Named : List ℕ → ℕ → ℕ × List ℕ → Type 0
+Named bs a p = (p.0 < a) × Name p.1 × Listed bs p.1 p.0
 
 at_place : (P : ℕ × List ℕ → Type 0) (ps : List (List ℕ)) (k : ℕ) → k < length ps → P (get_or (enumerate_from 0 ps) k (0, [])) → P (k, get_or ps k [])
 at_place P ps k h = subst P (get_or-enumerate_from 0 ps k (0, []) h ∙ ap (λ n. (n, get_or ps k [])) (zero-add k))
 
-pub all_named : (bs : List ℕ) (a : ℕ) (r : Bool) → (length bs == 0) ≡ false → length (names_of bs) ≡ a → MatchBool r (AllWithin (Named bs) (enumerate_from 0 (parts bs)) 0 (length (enumerate_from 0 (parts bs)))) ((k : ℕ) × (k < length (enumerate_from 0 (parts bs))) × HoldsAt (λ p. Named bs p → ⊥) (enumerate_from 0 (parts bs)) k) → (r ≡ true → Proper bs a) × (Proper bs a → r ≡ true)
-all_named [] a r n e h = absurd (clash (sym n))
-all_named (b ∷ bs) a true n e h =
-    let l = length-enumerate_from 0 (parts (b ∷ bs)) in
-    let at : (k : ℕ) → k < a → Named (b ∷ bs) (k, get_or (parts (b ∷ bs)) k []) = λ k i. at_place (Named (b ∷ bs)) (parts (b ∷ bs)) k (omega arith) (h k (0, []) (omega arith) (omega arith)) in (
-      λ t. record { count = e; each = λ k i. (at k i).0; distinct = λ i j o m s. (at j m).1.first i o s },
+-- a list is proper exactly if each part is named so, and there are as many as there are marks
+pub all_named : (bs : List ℕ) (a : ℕ) (r : Bool) → (length bs == 0) ≡ false → MatchBool r (AllWithin (Named bs a) (enumerate_from 0 (parts bs)) 0 (length (enumerate_from 0 (parts bs)))) ((k : ℕ) × (k < length (enumerate_from 0 (parts bs))) × HoldsAt (λ p. Named bs a p → ⊥) (enumerate_from 0 (parts bs)) k) → (r ≡ true → length (names_of bs) ≡ a → Proper bs a) × (Proper bs a → r ≡ true)
+all_named [] a r n h = absurd (clash (sym n))
+all_named (b ∷ bs) a true n h =
+    let l = length-enumerate_from 0 (parts (b ∷ bs)) in (
+      λ t e.
+          let at : (k : ℕ) → k < a → Named (b ∷ bs) a (k, get_or (parts (b ∷ bs)) k []) = λ k i. at_place (Named (b ∷ bs) a) (parts (b ∷ bs)) k (omega arith) (h k (0, []) (omega arith) (omega arith)) in
+          record { count = e; each = λ k i. (at k i).1; distinct = λ i j o m s. (at j m).2.first i o s },
       λ p. refl,
     )
-all_named (b ∷ bs) a false n e h =
+all_named (b ∷ bs) a false n h =
     let l = length-enumerate_from 0 (parts (b ∷ bs)) in
     let i : h.0 < length (parts (b ∷ bs)) = omega (arith, h.1) in (
-      λ t. absurd (clash t),
-      λ p. absurd (at_place (λ q. Named (b ∷ bs) q → ⊥) (parts (b ∷ bs)) h.0 i (h.2 (0, [])) (p.each h.0 (omega arith), record { within = i; here = refl; first = λ k o s. p.distinct k h.0 o (omega arith) s })),
+      λ t e. absurd (clash t),
+      λ p.
+          let e : length (parts (b ∷ bs)) ≡ a = p.count in
+          absurd (at_place (λ q. Named (b ∷ bs) a q → ⊥) (parts (b ∷ bs)) h.0 i (h.2 (0, [])) (omega arith, p.each h.0 (omega arith), record { within = i; here = refl; first = λ k o s. p.distinct k h.0 o (omega arith) s })),
     )

@@ -147,6 +147,9 @@ fn front<'a>(text: &'a [u8]) -> (Token<'a>, usize)
 pub fn token_at<'a>(text: &'a [u8], at: usize) -> (Token<'a>, usize)
     ensures { Seen (drop at text.now) (tok_of result.0) (drop result.1 text.now) }
 {
+    if at >= text.len() {
+        return (Token::End, at);
+    }
     let start = skip_spaces(text, at);
     let (token, n) = front(&text[start..]);
     (token, start + n)

@@ -39,18 +39,19 @@ fn is_named(list: &[u8], mark: usize, part: &[u8]) -> bool
     is_name(part) && mark_of(list, part) == Some(mark)
 }
 
-// Whether the list is exactly `marks` distinct names with one space between two.
+// Whether the list is exactly `marks` distinct names with one space between two. It is read to the end only if its parts are names,
+// and no more than `marks`: a list that is not proper may be long.
 pub fn proper(list: &[u8], marks: u8) -> bool
     ensures { Decides result (Proper list.now marks) }
 {
-    if count(list) != marks as usize {
-        return false;
+    let most = marks as usize;
+    if list.is_empty() {
+        return most == 0;
     }
-    list.is_empty()
-        || list
-            .split(is_space)
-            .enumerate()
-            .all(|(mark, part)| is_named(list, mark, part))
+    list.split(is_space)
+        .enumerate()
+        .all(|(mark, part)| mark < most && is_named(list, mark, part))
+        && count(list) == most
 }
 
 // How many names the list has, proper or not: one more than its spaces, and none if it is empty.
