@@ -4,6 +4,7 @@
 ghost use Rattle.showtable.specs.Loads.{Loads};
 
 use anyhow::anyhow;
+use arrayvec::ArrayVec;
 use scale::{Logic, Scale, numbers};
 use std::alloc::Global;
 use std::io::Read;
@@ -16,7 +17,7 @@ mod fault;
 use crate::fault::Fault;
 
 // A table has at most 16 words. One word more is read, so that a longer input is seen to be too long.
-const MOST_BYTES: u64 = 68;
+const MOST_BYTES: usize = 68;
 
 // Loads a table from the bytes of its words.
 fn load(heap: Global, table: &mut Table, bytes: &[u8]) -> Result<(), Fault>
@@ -112,8 +113,9 @@ fn cut<L: Logic>(rt: &HostRuntime, logic: &L, j: u32) -> io::Result<()> {
 }
 
 fn run(rt: &HostRuntime) -> anyhow::Result<()> {
-    let mut bytes = Vec::new(rt.alloc());
-    rt.stdin().take(MOST_BYTES).read_to_end(&mut bytes)?;
+    // in fixed memory, so that what is read takes no heap
+    let mut bytes = ArrayVec::<u8, MOST_BYTES>::new();
+    io::copy(&mut rt.stdin().take(MOST_BYTES as u64), &mut bytes)?;
     let mut table = Table::new();
     match load(rt.alloc(), &mut table, bytes.as_slice()) {
         Ok(()) => Ok(report(rt, &table)?),
